@@ -1,0 +1,18 @@
+-- `board::Board::read_protected` meets its contract. Assumes nothing.
+use Rattle.board.specs.Protection.{readProtected}
+use borrow.Author.Needs.{needs}
+use Rattle.board.proofs.Board.read_protected.Statement.{statement}
+use Rattle.board.proofs.Board.read_protected.Tie as tie
+
+options-from-requires : tie.Need-options-from-requires
+options-from-requires c κs = search needs
+
+byte-at-requires : tie.Need-byte-at-requires
+byte-at-requires c κs = search needs
+
+returns : tie.Need-returns
+unfolding readProtected
+returns c = simp (c .byte-at .ensures, c .before .options-from .ensures)
+
+pub read-protected-spec : {M : Type 1} → statement M
+read-protected-spec = tie.close (tie.spec options-from-requires byte-at-requires returns)

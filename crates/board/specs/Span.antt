@@ -1,0 +1,19 @@
+-- Which region a span of addresses lies in. Document 01, "The board" and the second of the read and write checks. Assumes nothing.
+use mathlib.Core.Bool.{Bool, _&&_, cond}
+use Prim.Native.Nat.{ℕ, _+_, _-_}
+use lib.Dec.{leb}
+use Rattle.board.specs.declared.Place.{Place}
+use Rattle.board.specs.declared.Place.the-variants.{Flash, Ram, Options, Outside}
+use Rattle.board.specs.Layout.{flashFirst, flashBytes, ramFirst, ramBytes, ramFrom, optionsFirst, optionBytes, optionsFrom}
+
+-- `count` addresses from `address` on lie in the region of `bytes` addresses from `first` on
+unfoldable pub spans : ℕ → ℕ → ℕ → ℕ → Bool
+spans first bytes address count = leb first address && leb (address - first + count) bytes
+
+-- "the span lies in one region": which one, and where its first byte stands in the memory buffer
+unfoldable pub placeOf : ℕ → ℕ → ℕ → Place
+placeOf n address count =
+    cond (spans flashFirst (flashBytes n) address count) (Flash (address - flashFirst))
+    (cond (spans ramFirst ramBytes address count) (Ram (ramFrom n + (address - ramFirst)))
+    (cond (spans optionsFirst optionBytes address count) (Options (optionsFrom n + (address - optionsFirst)))
+    Outside))

@@ -1,0 +1,142 @@
+// The board: where its regions lie, what is protected, and which span of addresses lies where.
+ghost use mathlib.Core.Path.{_≡_};
+ghost use Rattle.board.specs.Layout.{flashBytes, ramFrom, optionsFrom, memoryBytes, defaults};
+ghost use Rattle.board.specs.Span.{placeOf, spans};
+ghost use Rattle.board.specs.Protection.{writeProtected, wordOf, readProtected};
+
+// A board is known by its number of flash pages; all else of the layout follows.
+pub struct Board {
+    pub pages: u8,
+}
+
+// Where a span lies, with the place of its first byte in the memory buffer.
+pub enum Place {
+    Flash(usize),
+    Ram(usize),
+    Options(usize),
+    Outside,
+}
+
+impl Board {
+    pub const LOGGER: Board = Board { pages: 16 };
+
+    pub const PAGE: usize = 1024;
+
+    pub const FLASH: u32 = 0x0800_0000;
+
+    pub const RAM: u32 = 0x2000_0000;
+
+    pub const RAM_BYTES: usize = 2048;
+
+    pub const OPTIONS: u32 = 0x1FFF_F800;
+
+    pub const OPTION_BYTES: usize = 16;
+
+    // The option bytes of a board as delivered: not read-protected, no page write-protected.
+    pub fn default_options() -> [u8; 16]
+        ensures { λ r. ⌜ r ≡ defaults ⌝ }
+    {
+        [
+            0xAA,
+            255,
+            255,
+            255,
+            255,
+            255,
+            255,
+            255,
+            255,
+            255,
+            255,
+            255,
+            255,
+            255,
+            255,
+            255,
+        ]
+    }
+
+    pub fn flash_bytes(self) -> usize
+        ensures { λ r. ⌜ r ≡ flashBytes (self .pages) ⌝ }
+    {
+        self.pages as usize * Board::PAGE
+    }
+
+    pub fn ram_from(self) -> usize
+        ensures { λ r. ⌜ r ≡ ramFrom (self .pages) ⌝ }
+    {
+        self.flash_bytes()
+    }
+
+    pub fn options_from(self) -> usize
+        ensures { λ r. ⌜ r ≡ optionsFrom (self .pages) ⌝ }
+    {
+        self.pages as usize * Board::PAGE + Board::RAM_BYTES
+    }
+
+    pub fn memory_bytes(self) -> usize
+        ensures { λ r. ⌜ r ≡ memoryBytes (self .pages) ⌝ }
+    {
+        self.pages as usize * Board::PAGE + Board::RAM_BYTES + Board::OPTION_BYTES
+    }
+
+    // Which region the `count` addresses from `address` on lie in.
+    pub fn place(self, address: u64, count: u64) -> Place
+        ensures { λ r. ⌜ r ≡ placeOf (self .pages) address count ⌝ }
+    {
+        let flash = self.flash_bytes();
+        if within(Board::FLASH, flash, address, count) {
+            return Place::Flash((address - Board::FLASH as u64) as usize);
+        }
+        if within(Board::RAM, Board::RAM_BYTES, address, count) {
+            return Place::Ram(flash + (address - Board::RAM as u64) as usize);
+        }
+        if within(Board::OPTIONS, Board::OPTION_BYTES, address, count) {
+            let at = self.options_from();
+            return Place::Options(at + (address - Board::OPTIONS as u64) as usize);
+        }
+        Place::Outside
+    }
+
+    // Does the first option byte protect the whole memory from reading?
+    pub fn read_protected(self, memory: &[u8]) -> bool
+        ensures { λ r. ⌜ r ≡ readProtected (self .pages) (now (memory .entry)) ⌝ }
+    {
+        let at = self.options_from();
+        buffer::byte_at(memory, at) != 0xAA
+    }
+
+    // The option bytes that hold a bit a page, as one number.
+    pub fn protection_word(self, memory: &[u8]) -> u32
+        ensures { λ r. ⌜ r ≡ wordOf (self .pages) (now (memory .entry)) ⌝ }
+    {
+        let at = self.options_from();
+        let low = buffer::byte_at(memory, at + 8);
+        let high = buffer::byte_at(memory, at + 9);
+        low as u32 + high as u32 * 256
+    }
+}
+
+// Do `count` addresses from `address` on lie in the region of `bytes` from `first` on?
+fn within(first: u32, bytes: usize, address: u64, count: u64) -> bool
+    ensures { λ r. ⌜ r ≡ spans first bytes address count ⌝ }
+{
+    if address < first as u64 {
+        return false;
+    }
+    let offset = address - first as u64;
+    if (bytes as u64) < offset {
+        return false;
+    }
+    count <= bytes as u64 - offset
+}
+
+// Is the page's bit clear in the protection word? A page that has no bit there is protected.
+pub fn write_protected(word: u32, page: usize) -> bool
+    ensures { λ r. ⌜ r ≡ writeProtected word page ⌝ }
+{
+    if 32 <= page {
+        return true;
+    }
+    (word >> page) & 1 == 0
+}

@@ -1,0 +1,56 @@
+-- Laws of `put` and `filled`: one turn of a loop that stores, its end, and lengths. Assumes nothing.
+use mathlib.Core.Path.{_≡_, refl, ap, _∙_, sym}
+use mathlib.Core.List.{List, [], _∷_, _++_}
+use Prim.Native.Nat.{ℕ, zero, suc, _+_, _-_, _≤_, _<_}
+use native.Mathlib.Omega.{arith}
+use native.Mathlib.Nat.{le-refl, add-assoc}
+use native.Mathlib.Numerals.{add-one}
+use lib.ListN.{length, take, drop, getD, set, replicate, length-drop, length-replicate, drop-of-length-le}
+use lib.Seq.{drop-cons, sets, sets-eq, length-sets, take-all}
+use Rattle.laws.specs.Bytes.{put, filled}
+
+-- one store a byte, from place i on (`sets` of the kit), is `put`
+pub sets-put : (xs m : List ℕ) (at : ℕ) → at + length xs ≤ length m → sets m at xs ≡ put at xs m
+unfolding put
+sets-put xs m at h = sets-eq xs m at h
+
+pub put-length : (at : ℕ) (xs m : List ℕ) → at + length xs ≤ length m → length (put at xs m) ≡ length m
+put-length at xs m h = ap length (sym (sets-put xs m at h)) ∙ length-sets m at xs
+
+pub filled-length : (from count v : ℕ) (m : List ℕ) → from + count ≤ length m → length (filled from count v m) ≡ length m
+unfolding filled
+filled-length from count v m h =
+    let e : length (replicate count v) ≡ count = length-replicate {A = ℕ} count v in
+    let room : from + length (replicate count v) ≤ length m = omega arith in
+    put-length from (replicate count v) m room
+
+-- a turn of a loop that copies xs to m from place `at` on, at the j-th of them
+pub sets-turn : (m xs : List ℕ) (at j : ℕ) → j < length xs → sets m (at + j) (drop j xs) ≡ sets (set m (at + j) (getD xs j 0)) (at + (j + 1)) (drop (j + 1) xs)
+sets-turn m xs at j h = rw (drop-cons xs j 0 h, ← add-assoc at j 1, add-one (at + j), add-one j)
+
+pub sets-end : (m xs : List ℕ) (i j : ℕ) → length xs ≤ j → sets m i (drop j xs) ≡ m
+sets-end m xs i j h = rw (drop-of-length-le xs h)
+
+-- a turn of a loop that fills up to place `to`
+pub fill-turn : (m : List ℕ) (i to v : ℕ) → i < to → sets m i (replicate (to - i) v) ≡ sets (set m i v) (i + 1) (replicate (to - (i + 1)) v)
+fill-turn m i to v h =
+    let k : to - i ≡ suc (to - (i + 1)) = omega arith in
+    rw (k, add-one i)
+
+pub fill-end : (m : List ℕ) (i to v : ℕ) → to ≤ i → sets m i (replicate (to - i) v) ≡ m
+fill-end m i to v h =
+    let k : to - i ≡ 0 = omega arith in
+    rw k
+
+pub sets-filled : (m : List ℕ) (from to v : ℕ) → from ≤ to → to ≤ length m → sets m from (replicate (to - from) v) ≡ filled from (to - from) v m
+unfolding filled
+sets-filled m from to v h k =
+    let e : length (replicate (to - from) v) ≡ to - from = length-replicate {A = ℕ} (to - from) v in
+    let room : from + length (replicate (to - from) v) ≤ length m = omega arith in
+    sets-put (replicate (to - from) v) m from room
+
+-- what a callee that is handed `&s[k..]` sees
+pub rest-is : (k : ℕ) (l : List ℕ) → take (length l - k) (drop k l) ≡ drop k l
+rest-is k l =
+    let h : length (drop k l) ≤ length l - k = rw length-drop (le-refl _) in
+    take-all (length l - k) (drop k l) h

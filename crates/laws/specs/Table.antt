@@ -1,0 +1,15 @@
+-- A test at every entry of a table, for the prover to compute. Assumes nothing.
+use mathlib.Core.Bool.{Bool, true, false, _&&_}
+use mathlib.Core.List.{List, [], _∷_}
+use Prim.Native.Nat.{ℕ, suc}
+
+-- the test passes at each entry and its place, counted from i
+abbrev pub every : (ℕ → ℕ → Bool) → ℕ → List ℕ → Bool
+every test i [] = true
+every test i (x ∷ xs) = test i x && every test (suc i) xs
+
+-- two truth values are the same
+abbrev pub same : Bool → Bool → Bool
+same true b = b
+same false true = false
+same false false = true

@@ -1,0 +1,63 @@
+// Every refusal of every call, in one enum: its number, and the line that it names.
+ghost use mathlib.Core.Path.{_≡_};
+ghost use Rattle.refusal.specs.Refusal.{numberOf, lineOf};
+
+pub enum Refusal {
+    Memory,
+    Block,
+    Reply,
+    State,
+    Request,
+    Work,
+    Image,
+    Card,
+    Text,
+    Line(usize),
+    Output,
+    Protected,
+    File,
+}
+
+impl Refusal {
+    // The number that documents, programs and people use.
+    pub fn number(self) -> u8
+        ensures { λ r. ⌜ r ≡ numberOf self ⌝ }
+    {
+        match self {
+            Refusal::Memory => 1,
+            Refusal::Block => 2,
+            Refusal::Reply => 3,
+            Refusal::State => 4,
+            Refusal::Request => 5,
+            Refusal::Work => 6,
+            Refusal::Image => 7,
+            Refusal::Card => 8,
+            Refusal::Text => 9,
+            Refusal::Line(_) => 10,
+            Refusal::Output => 11,
+            Refusal::Protected => 12,
+            Refusal::File => 13,
+        }
+    }
+
+    // The line of the text that is at fault, from 1, or 0 where the refusal names none.
+    pub fn line(self) -> usize
+        ensures { λ r. ⌜ r ≡ lineOf self ⌝ }
+    {
+        match self {
+            Refusal::Memory => 0,
+            Refusal::Block => 0,
+            Refusal::Reply => 0,
+            Refusal::State => 0,
+            Refusal::Request => 0,
+            Refusal::Work => 0,
+            Refusal::Image => 0,
+            Refusal::Card => 0,
+            Refusal::Text => 0,
+            Refusal::Line(line) => line,
+            Refusal::Output => 0,
+            Refusal::Protected => 0,
+            Refusal::File => 0,
+        }
+    }
+}
