@@ -44,4 +44,4 @@ memoryBytes n = optionsFrom n + optionBytes
 
 -- "Default options"
 abbrev pub defaults : List ℕ
-defaults = 170 ∷ replicate 15 255
+defaults = 0xAA ∷ replicate 15 255

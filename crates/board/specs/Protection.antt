@@ -8,7 +8,7 @@ use Rattle.board.specs.Layout.{optionsFrom}
 
 -- "byte 0 is 0xAA for no read protection, any other value for protected"; m is the memory buffer
 unfoldable pub readProtected : ℕ → List ℕ → Bool
-readProtected n m = not (eqb (getD m (optionsFrom n) 0) 170)
+readProtected n m = not (eqb (getD m (optionsFrom n) 0) 0xAA)
 
 -- "Bytes 8 and 9, low byte first"
 unfoldable pub wordOf : ℕ → List ℕ → ℕ

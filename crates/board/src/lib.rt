@@ -36,24 +36,9 @@ impl Board {
     pub fn default_options() -> [u8; 16]
         ensures { λ r. ⌜ r ≡ defaults ⌝ }
     {
-        [
-            0xAA,
-            255,
-            255,
-            255,
-            255,
-            255,
-            255,
-            255,
-            255,
-            255,
-            255,
-            255,
-            255,
-            255,
-            255,
-            255,
-        ]
+        let mut options = [255u8; 16];
+        options[0] = 0xAA;
+        options
     }
 
     pub fn flash_bytes(self) -> usize

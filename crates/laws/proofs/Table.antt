@@ -8,23 +8,24 @@ use lib.Dec.{T}
 use lib.ListN.{length, getD}
 use Rattle.laws.specs.Table.{every, same}
 
-and-left : (a b : Bool) → T (a && b) → T a
+pub and-left : (a b : Bool) → T (a && b) → T a
 and-left true b t = tt
 and-left false b t = t
 
-and-right : (a b : Bool) → T (a && b) → T b
+pub and-right : (a b : Bool) → T (a && b) → T b
 and-right true b t = t
 and-right false b t = absurd t
 
-from : (test : ℕ → ℕ → Bool) (xs : List ℕ) (i : ℕ) → T (every test i xs) → (k : ℕ) → k < length xs → T (test (i + k) (getD xs k 0))
-from test [] i t k h = absurd (not-suc-le-zero h)
-from test (x ∷ xs) i t zero h = subst (λ (m : ℕ). T (test m x)) (sym (add-zero i)) (and-left (test i x) (every test (suc i) xs) t)
-from test (x ∷ xs) i t (suc k) h =
-    subst (λ (m : ℕ). T (test m (getD xs k 0))) (suc-add i k ∙ sym (add-suc i k))
-    (from test xs (suc i) (and-right (test i x) (every test (suc i) xs) t) k (le-of-suc-le-suc h))
+module _ {A : Type 0} (test : ℕ → A → Bool) (d : A) where
+  from : (xs : List A) (i : ℕ) → T (every test i xs) → (k : ℕ) → k < length xs → T (test (i + k) (getD xs k d))
+  from [] i t k h = absurd (not-suc-le-zero h)
+  from (x ∷ xs) i t zero h = subst (λ (m : ℕ). T (test m x)) (sym (add-zero i)) (and-left (test i x) (every test (suc i) xs) t)
+  from (x ∷ xs) i t (suc k) h =
+      subst (λ (m : ℕ). T (test m (getD xs k d))) (suc-add i k ∙ sym (add-suc i k))
+      (from xs (suc i) (and-right (test i x) (every test (suc i) xs) t) k (le-of-suc-le-suc h))
 
-pub every-at : (test : ℕ → ℕ → Bool) (xs : List ℕ) → T (every test 0 xs) → (k : ℕ) → k < length xs → T (test k (getD xs k 0))
-every-at test xs t k h = subst (λ (m : ℕ). T (test m (getD xs k 0))) (zero-add k) (from test xs 0 t k h)
+  pub every-at : (xs : List A) → T (every test 0 xs) → (k : ℕ) → k < length xs → T (test k (getD xs k d))
+  every-at xs t k h = subst (λ (m : ℕ). T (test m (getD xs k d))) (zero-add k) (from xs 0 t k h)
 
 pub same-eq : (a b : Bool) → T (same a b) → a ≡ b
 same-eq true true t = refl

@@ -4,7 +4,7 @@ use mathlib.Core.List.{List, [], _∷_}
 use Prim.Native.Nat.{ℕ, suc}
 
 -- the test passes at each entry and its place, counted from i
-abbrev pub every : (ℕ → ℕ → Bool) → ℕ → List ℕ → Bool
+abbrev pub every : {A : Type 0} → (ℕ → A → Bool) → ℕ → List A → Bool
 every test i [] = true
 every test i (x ∷ xs) = test i x && every test (suc i) xs
 

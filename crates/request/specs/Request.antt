@@ -34,4 +34,4 @@ inwardOf s =
 
 -- columns "Type, code" and "Fields", and "wIndex is 0"
 unfoldable pub requestOf : Setup → Request
-requestOf s = cond (eqb (s .index) 0) (cond (eqb (s .kind) 33) (outwardOf s) (cond (eqb (s .kind) 161) (inwardOf s) Unknown)) Unknown
+requestOf s = cond (eqb (s .index) 0) (cond (eqb (s .kind) 0x21) (outwardOf s) (cond (eqb (s .kind) 0xA1) (inwardOf s) Unknown)) Unknown

@@ -1,0 +1,4 @@
+pub mod Wire
+pub mod Table
+pub mod State
+pub mod WellFormed

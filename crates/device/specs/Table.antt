@@ -1,0 +1,48 @@
+-- Which request is taken in which mode. Document 01, "Events", last column of the table of requests. Assumes nothing.
+use mathlib.Core.Bool.{Bool, true, false, _||_}
+use mathlib.Core.List.{List, [], _∷_}
+use Prim.Native.Nat.{ℕ}
+use lib.Dec.{eqb}
+use Rattle.request.specs.declared.Request.{Request}
+use Rattle.request.specs.declared.Request.the-variants.{Download, Upload, GetStatus, ClearStatus, GetState, Abort, Unknown}
+use Rattle.device.specs.declared.Mode.{Mode}
+use Rattle.device.specs.declared.Mode.the-variants.{Idle, DownloadSync, DownloadBusy, DownloadIdle, ManifestSync, UploadIdle, Error, Left, Rebooting}
+use Rattle.device.specs.Wire.{wireOf}
+
+-- column "Modes", by wire numbers; "all else stalls"
+abbrev pub modesOf : Request → List ℕ
+modesOf Download = 2 ∷ 5 ∷ []
+modesOf Upload = 2 ∷ 9 ∷ []
+modesOf GetStatus = 2 ∷ 3 ∷ 4 ∷ 5 ∷ 6 ∷ 9 ∷ 10 ∷ []
+modesOf ClearStatus = 10 ∷ []
+modesOf GetState = 2 ∷ 3 ∷ 5 ∷ 6 ∷ 9 ∷ 10 ∷ []
+modesOf Abort = 2 ∷ 3 ∷ 5 ∷ 6 ∷ 9 ∷ []
+modesOf Unknown = []
+
+abbrev pub listed : ℕ → List ℕ → Bool
+listed x [] = false
+listed x (y ∷ ys) = eqb x y || listed x ys
+
+unfoldable pub allowedOf : Request → Mode → Bool
+allowedOf request mode = listed (wireOf mode) (modesOf request)
+
+-- "a constant table of numbers, by request and mode": its rows and columns
+abbrev pub rowOf : Request → ℕ
+rowOf Download = 0
+rowOf Upload = 1
+rowOf GetStatus = 2
+rowOf ClearStatus = 3
+rowOf GetState = 4
+rowOf Abort = 5
+rowOf Unknown = 6
+
+abbrev pub columnOf : Mode → ℕ
+columnOf Idle = 0
+columnOf DownloadSync = 1
+columnOf DownloadBusy = 2
+columnOf DownloadIdle = 3
+columnOf ManifestSync = 4
+columnOf UploadIdle = 5
+columnOf Error = 6
+columnOf Left = 7
+columnOf Rebooting = 8

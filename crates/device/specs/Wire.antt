@@ -1,0 +1,39 @@
+-- Wire numbers. Document 01, "The board", the list of modes; status numbers of USB DFU 1.1. Assumes nothing.
+use mathlib.Core.Bool.{Bool}
+use Prim.Native.Nat.{ℕ}
+use lib.Dec.{eqb}
+use Rattle.device.specs.declared.Mode.{Mode}
+use Rattle.device.specs.declared.Mode.the-variants.{Idle, DownloadSync, DownloadBusy, DownloadIdle, ManifestSync, UploadIdle, Error, Left, Rebooting}
+
+-- "Modes: 2 dfuIDLE, .."; Left and Rebooting have no wire number: they answer nothing, so that their 0 is never sent
+abbrev pub wireOf : Mode → ℕ
+wireOf Idle = 2
+wireOf DownloadSync = 3
+wireOf DownloadBusy = 4
+wireOf DownloadIdle = 5
+wireOf ManifestSync = 6
+wireOf UploadIdle = 9
+wireOf Error = 10
+wireOf Left = 0
+wireOf Rebooting = 0
+
+-- the mode is the one of this wire number
+abbrev pub isMode : ℕ → Mode → Bool
+isMode k mode = eqb (wireOf mode) k
+
+-- "reports 7": dfuMANIFEST, which a GETSTATUS reports and the device never stays in
+abbrev pub manifestWire : ℕ
+manifestWire = 7
+
+-- "status", by the names that the paper gives them
+abbrev pub errTARGET : ℕ
+errTARGET = 1
+
+abbrev pub errWRITE : ℕ
+errWRITE = 3
+
+abbrev pub errVENDOR : ℕ
+errVENDOR = 11
+
+abbrev pub errSTALLEDPKT : ℕ
+errSTALLEDPKT = 15
