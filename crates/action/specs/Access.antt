@@ -14,11 +14,15 @@ use Rattle.device.specs.Wire.{errTARGET, errVENDOR}
 unfoldable pub blockAddress : ℕ → ℕ → ℕ → ℕ
 blockAddress block count pointer = (block - 2) * count + pointer
 
--- check 2, of a span that lies at a place: "in flash or RAM and shorter than 2; or it touches options and is not all 16 from their start"
+-- "it touches options and is not all 16 from their start"
+abbrev pub optionsAt : ℕ → ℕ → ℕ → Access
+optionsAt n at count = cond (eqb at (optionsFrom n) && eqb count optionBytes) (InOptions at) (Denied errTARGET)
+
+-- check 2, of a span that lies at a place: "in flash or RAM and shorter than 2"
 abbrev pub checkedOf : ℕ → ℕ → Place → Access
 checkedOf n count (Flash at) = cond (ltb count 2) (Denied errTARGET) (InFlash at)
 checkedOf n count (Ram at) = cond (ltb count 2) (Denied errTARGET) (InRam at)
-checkedOf n count (Options at) = cond (eqb at (optionsFrom n) && eqb count optionBytes) (InOptions at) (Denied errTARGET)
+checkedOf n count (Options at) = optionsAt n at count
 checkedOf n count Outside = Denied errTARGET
 
 -- checks 1 and 2, "first that applies"
