@@ -3,7 +3,7 @@ use mathlib.Core.Path.{_≡_, refl, _∙_, sym}
 use mathlib.Core.Bool.{Bool, true, false, cond}
 use Prim.Native.Nat.{ℕ, _+_, _-_, _≤_, _<_}
 use native.Mathlib.Omega.{arith}
-use lib.Dec.{leb}
+use lib.Dec.{T, leb}
 use borrow.Author.Tests.{le-leb, lt-leb, leb-true}
 use Rattle.laws.proofs.Split.{by-bool, by-lt, and-true}
 use Rattle.board.specs.declared.Place.{Place}
@@ -55,3 +55,27 @@ module _ (n bytes address count : ℕ) (size : bytes ≡ flashBytes n) where
   pub place-outside : spans flashFirst bytes address count ≡ false → spans ramFirst ramBytes address count ≡ false → spans optionsFirst optionBytes address count ≡ false → placeOf n address count ≡ Outside
   unfolding placeOf
   place-outside f r o = rw (← size, f, r, o)
+
+-- a place keeps its `count` bytes within its region
+abbrev pub Lies : ℕ → ℕ → Place → Type 0
+Lies n count (Flash at) = at + count ≤ flashBytes n
+Lies n count (Ram at) = (ramFrom n ≤ at) × (at + count ≤ optionsFrom n)
+Lies n count (Options at) = (optionsFrom n ≤ at) × (at + count ≤ memoryBytes n)
+Lies n count Outside = T true
+
+pub place-lies : (n address count : ℕ) → Lies n count (placeOf n address count)
+unfolding placeOf
+place-lies n address count =
+    by-bool (spans flashFirst (flashBytes n) address count)
+    (λ f. rw f (spans-ends flashFirst (flashBytes n) address count f .1))
+    (λ f.
+    by-bool (spans ramFirst ramBytes address count)
+    (λ r.
+    let e = spans-ends ramFirst ramBytes address count r in
+    rw (f, r) (omega arith, omega arith))
+    (λ r.
+    by-bool (spans optionsFirst optionBytes address count)
+    (λ o.
+    let e = spans-ends optionsFirst optionBytes address count o in
+    rw (f, r, o) (omega arith, omega arith))
+    (λ o. rw (f, r, o) tt)))

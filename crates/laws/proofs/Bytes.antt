@@ -3,9 +3,9 @@ use mathlib.Core.Path.{_≡_, refl, ap, _∙_, sym}
 use mathlib.Core.List.{List, [], _∷_, _++_, append-nil}
 use Prim.Native.Nat.{ℕ, zero, suc, _+_, _-_, _≤_, _<_}
 use native.Mathlib.Omega.{arith}
-use native.Mathlib.Nat.{le-refl, add-assoc}
+use native.Mathlib.Nat.{le-refl, add-assoc, min-le-left}
 use native.Mathlib.Numerals.{add-one}
-use lib.ListN.{length, take, drop, getD, set, replicate, length-append, length-drop, length-replicate, drop-of-length-le}
+use lib.ListN.{length, take, drop, getD, set, replicate, length-append, length-take, length-drop, length-replicate, drop-of-length-le}
 use lib.Seq.{drop-cons, sets, sets-eq, length-sets, take-all, take-append-seam, drop-append-add}
 use Rattle.laws.specs.Bytes.{put, filled}
 
@@ -75,3 +75,7 @@ pub filled-span : (from count v : ℕ) (m : List ℕ) → filled from (from + co
 filled-span from count v m =
     let e : from + count - from ≡ count = omega arith in
     rw e
+
+-- the front of a list is no longer than asked for
+pub take-at-most : (n : ℕ) (l : List ℕ) → length (take n l) ≤ n
+take-at-most n l = rw length-take (min-le-left n (length l))

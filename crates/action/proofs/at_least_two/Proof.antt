@@ -1,14 +1,11 @@
+-- `action::at_least_two` meets its contract. Assumes nothing.
 use borrow.Author.Tests.{lt-ltb, le-ltb}
 use Rattle.action.proofs.at_least_two.Statement.{statement}
 use Rattle.action.proofs.at_least_two.Tie as tie
-use Rattle.action.proofs.at_least_two.Reads as reads
-use Rattle.action.proofs.at_least_two.Lts as lts
 
--- src/lib.rt:66:9
 returns : tie.Need-returns
 returns c = simp (lt-ltb _ _ (c .if1 .taken))
 
--- src/lib.rt:62:1
 returns-2 : tie.Need-returns-2
 returns-2 c = simp (le-ltb _ _ (c .if1 .left))
 

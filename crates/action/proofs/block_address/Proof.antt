@@ -1,3 +1,4 @@
+-- `action::block_address` meets its contract. Assumes nothing.
 use Rattle.action.proofs.Address.{address-low, offset-small}
 use Rattle.action.specs.Access.{blockAddress}
 use native.Mathlib.Omega.{arith}
@@ -5,30 +6,23 @@ use mathlib.Core.Path.{sym, refl}
 use borrow.Author.Needs.{needs}
 use Rattle.action.proofs.block_address.Statement.{statement}
 use Rattle.action.proofs.block_address.Tie as tie
-use Rattle.action.proofs.block_address.Reads as reads
-use Rattle.action.proofs.block_address.Lts as lts
 
--- src/lib.rt:40:9
 returns : tie.Need-returns
 returns c = sym (address-low _ _ _ (c .if1 .taken))
 
--- src/lib.rt:42:5
 cast-result : tie.Need-cast-result
 cast-result c = search needs
 
--- src/lib.rt:42:5
 mul-result : tie.Need-mul-result
 mul-result c =
     let a = c .before .args in
     omega (arith, offset-small (a .block) (a .count) (search needs) (search needs))
 
--- src/lib.rt:42:5
 add-result : tie.Need-add-result
 add-result c =
     let a = c .before .args in
     omega (arith, offset-small (a .block) (a .count) (search needs) (search needs))
 
--- src/lib.rt:36:1
 returns-2 : tie.Need-returns-2
 unfolding blockAddress
 returns-2 c = refl

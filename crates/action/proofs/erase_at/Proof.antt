@@ -1,38 +1,29 @@
+-- `action::erase_at` meets its contract. Assumes nothing.
 use borrow.Author.Needs.{needs}
 use Rattle.action.proofs.erase_at.Statement.{statement}
 use Rattle.action.proofs.erase_at.Tie as tie
-use Rattle.action.proofs.erase_at.Reads as reads
-use Rattle.action.proofs.erase_at.Lts as lts
 
--- src/lib.rt:131:22
 enum-known-place : tie.Need-enum-known-place
 enum-known-place c = search needs
 
--- src/lib.rt:132:26
 enum-told : tie.Need-enum-told
 enum-told c = search needs
 
--- src/lib.rt:133:30
 enum-told-2 : tie.Need-enum-told-2
 enum-told-2 c = search needs
 
--- src/lib.rt:134:27
 enum-told-3 : tie.Need-enum-told-3
 enum-told-3 c = search needs
 
--- src/lib.rt:127:1
 returns : tie.Need-returns
 returns c = simp (c .before .place .given .1)
 
--- src/lib.rt:127:1
 returns-2 : tie.Need-returns-2
 returns-2 c = simp (c .enum-told .given .1)
 
--- src/lib.rt:127:1
 returns-3 : tie.Need-returns-3
 returns-3 c = simp (c .enum-told2 .given .1)
 
--- src/lib.rt:127:1
 returns-4 : tie.Need-returns-4
 returns-4 c = simp (c .enum-told3 .given .1)
 

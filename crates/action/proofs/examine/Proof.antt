@@ -1,52 +1,38 @@
+-- `action::examine` meets its contract. Assumes nothing.
 use Rattle.action.specs.Access.{accessOf}
 use mathlib.Core.Path.{_∙_, sym}
 use borrow.Author.Needs.{needs}
 use Rattle.action.proofs.examine.Statement.{statement}
 use Rattle.action.proofs.examine.Tie as tie
-use Rattle.action.proofs.examine.Reads as reads
-use Rattle.action.proofs.examine.Lts as lts
-use Rattle.action.proofs.all_options.Reads as all-options-reads
-use Rattle.action.proofs.at_least_two.Reads as at-least-two-reads
-use Rattle.board.proofs.Board.place.Reads as place-reads
 
--- src/lib.rt:50:9
 returns : tie.Need-returns
 unfolding accessOf
 returns c = simp (c .if1 .taken)
 
--- src/lib.rt:52:9
 place-requires : tie.Need-place-requires
 place-requires c κs = search needs
 
--- src/lib.rt:54:22
 enum-known-place : tie.Need-enum-known-place
 enum-known-place c = search needs
 
--- src/lib.rt:54:29
 at-least-two-requires : tie.Need-at-least-two-requires
 at-least-two-requires c κs = search needs
 
--- src/lib.rt:55:20
 enum-known-place-2 : tie.Need-enum-known-place-2
 enum-known-place-2 c = search needs
 
--- src/lib.rt:55:27
 at-least-two-requires-2 : tie.Need-at-least-two-requires-2
 at-least-two-requires-2 c κs = search needs
 
--- src/lib.rt:56:24
 enum-known-place-3 : tie.Need-enum-known-place-3
 enum-known-place-3 c = search needs
 
--- src/lib.rt:56:31
 all-options-requires : tie.Need-all-options-requires
 all-options-requires c κs = search needs
 
--- src/lib.rt:57:27
 enum-told : tie.Need-enum-told
 enum-told c = search needs
 
--- src/lib.rt:46:1
 returns-2 : tie.Need-returns-2
 unfolding accessOf
 returns-2 c =
@@ -54,7 +40,6 @@ returns-2 c =
     let b = p .before .before in
     simp (c .at-least-two .ensures, b .before .if1 .left, sym (b .place .ensures) ∙ p .place2 .given .1)
 
--- src/lib.rt:46:1
 returns-3 : tie.Need-returns-3
 unfolding accessOf
 returns-3 c =
@@ -62,7 +47,6 @@ returns-3 c =
     let b = p .before .before in
     simp (c .at-least-two2 .ensures, b .before .if1 .left, sym (b .place .ensures) ∙ p .place3 .given .1)
 
--- src/lib.rt:46:1
 returns-4 : tie.Need-returns-4
 unfolding accessOf
 returns-4 c =
@@ -70,7 +54,6 @@ returns-4 c =
     let b = p .before .before in
     simp (c .all-options .ensures, b .before .if1 .left, sym (b .place .ensures) ∙ p .place4 .given .1)
 
--- src/lib.rt:46:1
 returns-5 : tie.Need-returns-5
 unfolding accessOf
 returns-5 c =

@@ -1,39 +1,27 @@
+-- `decision::decide` meets its contract. Assumes nothing.
 use Rattle.decision.specs.Decide.{decideOf}
 use borrow.Author.Tests.{ne-eqb, not-true, not-false}
-use mathlib.Core.Path.{sym, _∙_, ap}
+use mathlib.Core.Path.{sym, _∙_}
 use borrow.Author.Needs.{needs}
 use Rattle.decision.proofs.decide.Statement.{statement}
 use Rattle.decision.proofs.decide.Tie as tie
-use Rattle.decision.proofs.decide.Reads as reads
-use Rattle.decision.proofs.decide.Lts as lts
-use Rattle.decision.proofs.refused.Reads as refused-reads
-use Rattle.decision.proofs.serve.Reads as serve-reads
-use Rattle.device.proofs.Mode.wire.Reads as wire-reads
-use Rattle.device.proofs.allowed.Reads as allowed-reads
-use Rattle.request.proofs.Setup.request.Reads as request-reads
 
--- src/lib.rt:54:8
 wire-requires : tie.Need-wire-requires
 wire-requires c κs = search needs
 
--- src/lib.rt:55:9
 returns : tie.Need-returns
 unfolding decideOf
 returns c = simp (sym (c .before .wire .ensures) ∙ c .if1 .taken)
 
--- src/lib.rt:57:9
 request-requires : tie.Need-request-requires
 request-requires c κs = search needs
 
--- src/lib.rt:58:9
 allowed-requires : tie.Need-allowed-requires
 allowed-requires c κs = search needs
 
--- src/lib.rt:59:9
 refused-requires : tie.Need-refused-requires
 refused-requires c κs = search needs
 
--- src/lib.rt:59:9
 returns-2 : tie.Need-returns-2
 unfolding decideOf
 returns-2 c =
@@ -41,11 +29,9 @@ returns-2 c =
     let w = r .before in
     simp (c .refused .ensures, ne-eqb _ _ (λ e. w .if1 .left (w .before .wire .ensures ∙ e)), sym (r .request .ensures), sym (c .before .before .allowed .ensures) ∙ not-true _ (c .before .if2 .taken))
 
--- src/lib.rt:61:5
 serve-requires : tie.Need-serve-requires
 serve-requires c κs = search needs
 
--- src/lib.rt:50:1
 returns-3 : tie.Need-returns-3
 unfolding decideOf
 returns-3 c =

@@ -1,47 +1,34 @@
+-- `decision::download` meets its contract. Assumes nothing.
 use Rattle.decision.specs.Decide.{downloadOf}
 use borrow.Author.Tests.{ne-eqb}
 use borrow.Author.Needs.{needs}
 use Rattle.decision.proofs.download.Statement.{statement}
 use Rattle.decision.proofs.download.Tie as tie
-use Rattle.decision.proofs.download.Reads as reads
-use Rattle.decision.proofs.download.Lts as lts
-use Rattle.decision.proofs.commanded.Reads as commanded-reads
-use Rattle.decision.proofs.refused.Reads as refused-reads
-use Rattle.decision.proofs.wait.Reads as wait-reads
-use Rattle.device.proofs.Device.enter.Reads as enter-reads
 
--- src/lib.rt:93:33
 enter-requires : tie.Need-enter-requires
 enter-requires c κs = search needs
 
--- src/lib.rt:93:9
 returns : tie.Need-returns
 unfolding downloadOf
 returns c = simp (c .enter .ensures, c .before .if1 .taken)
 
--- src/lib.rt:96:14
 commanded-requires : tie.Need-commanded-requires
 commanded-requires c κs = search needs
 
--- src/lib.rt:97:14
 refused-requires : tie.Need-refused-requires
 refused-requires c κs = search needs
 
--- src/lib.rt:98:37
 wait-requires : tie.Need-wait-requires
 wait-requires c κs = search needs
 
--- src/lib.rt:87:1
 returns-2 : tie.Need-returns-2
 unfolding downloadOf
 returns-2 c = simp (c .commanded .ensures, ne-eqb _ _ (c .before .before .if1 .left), c .before .match .keys1)
 
--- src/lib.rt:87:1
 returns-3 : tie.Need-returns-3
 unfolding downloadOf
 returns-3 c = simp (c .refused .ensures, ne-eqb _ _ (c .before .before .if1 .left), c .before .match .keys2)
 
--- src/lib.rt:87:1
 returns-4 : tie.Need-returns-4
 unfolding downloadOf
 returns-4 c =

@@ -1,25 +1,18 @@
+-- `decision::erase` meets its contract. Assumes nothing.
 use borrow.Author.Tests.{ne-eqb}
 use borrow.Author.Needs.{needs}
 use Rattle.decision.proofs.erase.Statement.{statement}
 use Rattle.decision.proofs.erase.Tie as tie
-use Rattle.decision.proofs.erase.Reads as reads
-use Rattle.decision.proofs.erase.Lts as lts
-use Rattle.decision.proofs.wait.Reads as wait-reads
-use Rattle.decision.proofs.wait_if.Reads as wait-if-reads
 
--- src/lib.rt:121:33
 wait-requires : tie.Need-wait-requires
 wait-requires c κs = search needs
 
--- src/lib.rt:121:9
 returns : tie.Need-returns
 returns c = simp (c .wait .ensures, c .before .if1 .taken)
 
--- src/lib.rt:123:5
 wait-if-requires : tie.Need-wait-if-requires
 wait-if-requires c κs = search needs
 
--- src/lib.rt:117:1
 returns-2 : tie.Need-returns-2
 returns-2 c = simp (c .wait-if .ensures, ne-eqb _ _ (c .before .if1 .left))
 

@@ -1,86 +1,62 @@
+-- `decision::serve` meets its contract. Assumes nothing.
 use borrow.Author.Needs.{needs}
 use Rattle.decision.proofs.serve.Statement.{statement}
 use Rattle.decision.proofs.serve.Tie as tie
-use Rattle.decision.proofs.serve.Reads as reads
-use Rattle.decision.proofs.serve.Lts as lts
-use Rattle.decision.proofs.download.Reads as download-reads
-use Rattle.decision.proofs.refused.Reads as refused-reads
-use Rattle.decision.proofs.upload.Reads as upload-reads
-use Rattle.device.proofs.Device.abort.Reads as abort-reads
 
--- src/lib.rt:76:30
 enum-told : tie.Need-enum-told
 enum-told c = search needs
 
--- src/lib.rt:76:30
 download-requires : tie.Need-download-requires
 download-requires c κs = search needs
 
--- src/lib.rt:77:28
 enum-told-2 : tie.Need-enum-told-2
 enum-told-2 c = search needs
 
--- src/lib.rt:77:28
 upload-requires : tie.Need-upload-requires
 upload-requires c κs = search needs
 
--- src/lib.rt:78:31
 enum-told-3 : tie.Need-enum-told-3
 enum-told-3 c = search needs
 
--- src/lib.rt:79:50
 enum-told-4 : tie.Need-enum-told-4
 enum-told-4 c = search needs
 
--- src/lib.rt:79:50
 abort-requires : tie.Need-abort-requires
 abort-requires c κs = search needs
 
--- src/lib.rt:80:30
 enum-told-5 : tie.Need-enum-told-5
 enum-told-5 c = search needs
 
--- src/lib.rt:81:44
 enum-told-6 : tie.Need-enum-told-6
 enum-told-6 c = search needs
 
--- src/lib.rt:81:44
 abort-requires-2 : tie.Need-abort-requires-2
 abort-requires-2 c κs = search needs
 
--- src/lib.rt:82:29
 enum-told-7 : tie.Need-enum-told-7
 enum-told-7 c = search needs
 
--- src/lib.rt:82:29
 refused-requires : tie.Need-refused-requires
 refused-requires c κs = search needs
 
--- src/lib.rt:72:1
 returns : tie.Need-returns
 returns c = simp (c .download .ensures, c .before .enum-told .given .1)
 
--- src/lib.rt:72:1
 returns-2 : tie.Need-returns-2
 returns-2 c = simp (c .upload .ensures, c .before .enum-told2 .given .1)
 
--- src/lib.rt:72:1
 returns-3 : tie.Need-returns-3
 returns-3 c = simp (c .enum-told3 .given .1)
 
--- src/lib.rt:72:1
 returns-4 : tie.Need-returns-4
 returns-4 c = simp (c .abort .ensures, c .before .enum-told4 .given .1)
 
--- src/lib.rt:72:1
 returns-5 : tie.Need-returns-5
 returns-5 c = simp (c .enum-told5 .given .1)
 
--- src/lib.rt:72:1
 returns-6 : tie.Need-returns-6
 returns-6 c = simp (c .abort2 .ensures, c .before .enum-told6 .given .1)
 
--- src/lib.rt:72:1
 returns-7 : tie.Need-returns-7
 returns-7 c = simp (c .refused .ensures, c .before .enum-told7 .given .1)
 

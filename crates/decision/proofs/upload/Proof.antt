@@ -1,37 +1,27 @@
+-- `decision::upload` meets its contract. Assumes nothing.
 use Rattle.decision.specs.Decide.{uploadOf}
 use borrow.Author.Tests.{ne-eqb}
 use borrow.Author.Needs.{needs}
 use Rattle.decision.proofs.upload.Statement.{statement}
 use Rattle.decision.proofs.upload.Tie as tie
-use Rattle.decision.proofs.upload.Reads as reads
-use Rattle.decision.proofs.upload.Lts as lts
-use Rattle.decision.proofs.listed.Reads as listed-reads
-use Rattle.decision.proofs.refused.Reads as refused-reads
-use Rattle.device.proofs.Device.enter.Reads as enter-reads
 
--- src/lib.rt:154:19
 enter-requires : tie.Need-enter-requires
 enter-requires c κs = search needs
 
--- src/lib.rt:155:20
 listed-requires : tie.Need-listed-requires
 listed-requires c κs = search needs
 
--- src/lib.rt:157:14
 refused-requires : tie.Need-refused-requires
 refused-requires c κs = search needs
 
--- src/lib.rt:148:1
 returns : tie.Need-returns
 unfolding uploadOf
 returns c = simp (c .listed .ensures, c .before .enter .ensures, c .before .before .match .keys1)
 
--- src/lib.rt:148:1
 returns-2 : tie.Need-returns-2
 unfolding uploadOf
 returns-2 c = simp (c .refused .ensures, c .before .match .keys2)
 
--- src/lib.rt:148:1
 returns-3 : tie.Need-returns-3
 unfolding uploadOf
 returns-3 c = simp (ne-eqb _ _ (c .match .rest .0 .1), ne-eqb _ _ (c .match .rest .1))

@@ -1,39 +1,29 @@
+-- `device::allowed` meets its contract. Assumes nothing.
 use Rattle.device.proofs.Table.{table-is, no-row, column-below}
 use native.Mathlib.Omega.{arith}
-use mathlib.Core.Path.{_≡_, sym, _∙_}
+use mathlib.Core.Path.{sym}
 use borrow.Author.Needs.{needs}
 use Rattle.device.proofs.allowed.Statement.{statement}
 use Rattle.device.proofs.allowed.Tie as tie
-use Rattle.device.proofs.allowed.Reads as reads
-use Rattle.device.proofs.allowed.Lts as lts
-use Rattle.device.proofs.Mode.column.Reads as column-reads
-use Rattle.device.proofs.row.Reads as row-reads
 
--- src/lib.rt:169:9
 row-requires : tie.Need-row-requires
 row-requires c κs = search needs
 
--- src/lib.rt:171:9
 returns : tie.Need-returns
 returns c = sym (no-row _ _ (omega arith))
 
--- src/lib.rt:173:9
 column-requires : tie.Need-column-requires
 column-requires c κs = search needs
 
--- src/lib.rt:174:5
 mul-result : tie.Need-mul-result
 mul-result c = search needs
 
--- src/lib.rt:174:5
 index-1-result : tie.Need-index-1-result
 index-1-result c = search needs
 
--- src/lib.rt:174:5
 index-2-result : tie.Need-index-2-result
 index-2-result c = omega (arith, column-below (c .before .before .before .args .mode))
 
--- src/lib.rt:166:1
 returns-2 : tie.Need-returns-2
 returns-2 c =
     let s = c .before .before .before .before in

@@ -1,48 +1,37 @@
+-- `device::in_region` meets its contract. Assumes nothing.
 use Rattle.device.specs.WellFormed.{inRegion, isPlace}
 use mathlib.Core.Path.{ap, sym, _∙_}
 use borrow.Author.Needs.{needs}
 use Rattle.device.proofs.in_region.Statement.{statement}
 use Rattle.device.proofs.in_region.Tie as tie
-use Rattle.device.proofs.in_region.Reads as reads
-use Rattle.device.proofs.in_region.Lts as lts
-use Rattle.board.proofs.Board.place.Reads as place-reads
 
--- src/lib.rt:275:9
 place-requires : tie.Need-place-requires
 place-requires c κs = search needs
 
--- src/lib.rt:277:28
 enum-told : tie.Need-enum-told
 enum-told c = search needs
 
--- src/lib.rt:278:26
 enum-told-2 : tie.Need-enum-told-2
 enum-told-2 c = search needs
 
--- src/lib.rt:279:30
 enum-told-3 : tie.Need-enum-told-3
 enum-told-3 c = search needs
 
--- src/lib.rt:280:27
 enum-told-4 : tie.Need-enum-told-4
 enum-told-4 c = search needs
 
--- src/lib.rt:272:1
 returns : tie.Need-returns
 unfolding inRegion
 returns c = sym (ap isPlace (sym (c .before .before .place .ensures) ∙ c .enum-told .given .1))
 
--- src/lib.rt:272:1
 returns-2 : tie.Need-returns-2
 unfolding inRegion
 returns-2 c = sym (ap isPlace (sym (c .before .before .place .ensures) ∙ c .enum-told2 .given .1))
 
--- src/lib.rt:272:1
 returns-3 : tie.Need-returns-3
 unfolding inRegion
 returns-3 c = sym (ap isPlace (sym (c .before .before .place .ensures) ∙ c .enum-told3 .given .1))
 
--- src/lib.rt:272:1
 returns-4 : tie.Need-returns-4
 unfolding inRegion
 returns-4 c = sym (ap isPlace (sym (c .before .before .place .ensures) ∙ c .enum-told4 .given .1))

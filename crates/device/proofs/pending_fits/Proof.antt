@@ -1,72 +1,54 @@
-use borrow.Author.Tests.{eqb-true, eqb-false}
+-- `device::pending_fits` meets its contract. Assumes nothing.
+use borrow.Author.Tests.{eqb-true}
 use mathlib.Core.Path.{sym, _∙_}
 use borrow.Author.Needs.{needs}
 use Rattle.device.proofs.pending_fits.Statement.{statement}
 use Rattle.device.proofs.pending_fits.Tie as tie
-use Rattle.device.proofs.pending_fits.Reads as reads
-use Rattle.device.proofs.pending_fits.Lts as lts
-use Rattle.device.proofs.Mode.wire.Reads as wire-reads
-use Rattle.device.proofs.write_fits.Reads as write-fits-reads
 
--- src/lib.rt:288:16
 wire-requires : tie.Need-wire-requires
 wire-requires c κs = search needs
 
--- src/lib.rt:290:29
 enum-told : tie.Need-enum-told
 enum-told c = search needs
 
--- src/lib.rt:291:35
 enum-told-2 : tie.Need-enum-told-2
 enum-told-2 c = search needs
 
--- src/lib.rt:292:34
 enum-told-3 : tie.Need-enum-told-3
 enum-told-3 c = search needs
 
--- src/lib.rt:293:31
 enum-told-4 : tie.Need-enum-told-4
 enum-told-4 c = search needs
 
--- src/lib.rt:294:35
 enum-told-5 : tie.Need-enum-told-5
 enum-told-5 c = search needs
 
--- src/lib.rt:295:26
 enum-known-pending : tie.Need-enum-known-pending
 enum-known-pending c = search needs
 
--- src/lib.rt:295:52
 write-fits-requires : tie.Need-write-fits-requires
 write-fits-requires c κs = search needs
 
--- src/lib.rt:285:1
 returns : tie.Need-returns
 returns c = simp (c .enum-told .given .1, c .before .before .wire .ensures)
 
--- src/lib.rt:285:1
 returns-2 : tie.Need-returns-2
 returns-2 c = simp (c .enum-told2 .given .1, c .before .before .wire .ensures)
 
--- src/lib.rt:285:1
 returns-3 : tie.Need-returns-3
 returns-3 c = simp (c .enum-told3 .given .1, c .before .before .wire .ensures)
 
--- src/lib.rt:285:1
 returns-4 : tie.Need-returns-4
 returns-4 c = simp (c .enum-told4 .given .1, c .before .before .wire .ensures)
 
--- src/lib.rt:285:1
 returns-5 : tie.Need-returns-5
 returns-5 c = simp (c .enum-told5 .given .1, c .before .before .wire .ensures)
 
--- src/lib.rt:285:1
 returns-6 : tie.Need-returns-6
 returns-6 c =
     let p = c .before .before .before in
     simp (c .write-fits .ensures, p .pending .given .1, sym (p .before .before .wire .ensures) ∙ eqb-true _ _ (c .before .if1 .taken))
 
--- src/lib.rt:285:1
 returns-7 : tie.Need-returns-7
 returns-7 c =
     let p = c .before .before in

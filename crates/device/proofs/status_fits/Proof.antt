@@ -1,39 +1,30 @@
+-- `device::status_fits` meets its contract. Assumes nothing.
 use borrow.Author.Tests.{ne-eqb}
 use mathlib.Core.Path.{sym, _∙_}
 use borrow.Author.Needs.{needs}
 use Rattle.device.proofs.status_fits.Statement.{statement}
 use Rattle.device.proofs.status_fits.Tie as tie
-use Rattle.device.proofs.status_fits.Reads as reads
-use Rattle.device.proofs.status_fits.Lts as lts
-use Rattle.device.proofs.Mode.wire.Reads as wire-reads
 
--- src/lib.rt:315:8
 wire-requires : tie.Need-wire-requires
 wire-requires c κs = search needs
 
--- src/lib.rt:316:9
 returns : tie.Need-returns
 returns c =
     let is = c .before .wire .ensures in
     simp (ne-eqb _ _ (λ e. c .if1 .taken (is ∙ e)))
 
--- src/lib.rt:312:1
 returns-2 : tie.Need-returns-2
 returns-2 c = simp (sym (c .before .before .wire .ensures) ∙ c .before .if1 .left, c .match .keys1)
 
--- src/lib.rt:312:1
 returns-3 : tie.Need-returns-3
 returns-3 c = simp (sym (c .before .before .wire .ensures) ∙ c .before .if1 .left, c .match .keys2)
 
--- src/lib.rt:312:1
 returns-4 : tie.Need-returns-4
 returns-4 c = simp (sym (c .before .before .wire .ensures) ∙ c .before .if1 .left, c .match .keys3)
 
--- src/lib.rt:312:1
 returns-5 : tie.Need-returns-5
 returns-5 c = simp (sym (c .before .before .wire .ensures) ∙ c .before .if1 .left, c .match .keys4)
 
--- src/lib.rt:312:1
 returns-6 : tie.Need-returns-6
 returns-6 c =
     let r = c .match .rest in

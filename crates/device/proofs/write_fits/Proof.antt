@@ -1,18 +1,14 @@
+-- `device::write_fits` meets its contract. Assumes nothing.
 use borrow.Author.Tests.{le-leb, lt-leb}
 use Rattle.device.proofs.write_fits.Statement.{statement}
 use Rattle.device.proofs.write_fits.Tie as tie
-use Rattle.device.proofs.write_fits.Reads as reads
-use Rattle.device.proofs.write_fits.Lts as lts
 
--- src/lib.rt:303:9
 returns : tie.Need-returns
 returns c = simp (lt-leb _ _ (c .if1 .taken))
 
--- src/lib.rt:306:9
 returns-2 : tie.Need-returns-2
 returns-2 c = simp (le-leb _ _ (c .before .if1 .left), lt-leb _ _ (c .if2 .taken))
 
--- src/lib.rt:299:1
 returns-3 : tie.Need-returns-3
 returns-3 c = simp (le-leb _ _ (c .before .if1 .left), le-leb _ _ (c .if2 .left))
 

@@ -1,3 +1,4 @@
+-- `memory::erase_all` meets its contract. Assumes nothing.
 use native.Mathlib.Nat.{sub-zero}
 use native.Mathlib.Omega.{arith}
 use Rattle.memory.proofs.Flash.{pages-turn, pages-end, erased-length}
@@ -7,9 +8,6 @@ use Prim.Native.Nat.{_-_}
 use mathlib.Core.Path.{_≡_, refl, ap, sym, _∙_}
 use Rattle.memory.proofs.erase_all.Statement.{statement}
 use Rattle.memory.proofs.erase_all.Tie as tie
-use Rattle.memory.proofs.erase_all.Reads as reads
-use Rattle.memory.proofs.erase_all.Lts as lts
-use Rattle.memory.proofs.erase.Reads as erase-reads
 
 abbrev Inv-loop : tie.InvT-loop
 Inv-loop memory₀ word pages page₀ memory page = (erasedFrom word (pages - page) page memory ≡ erasedFrom word pages 0 memory₀) × (length memory ≡ length memory₀)
@@ -17,27 +15,21 @@ Inv-loop memory₀ word pages page₀ memory page = (erasedFrom word (pages - pa
 abbrev μ-loop : tie.MeasureT-loop
 μ-loop memory₀ word pages page₀ memory page = pages - page
 
--- src/lib.rt:57:17
 cast-pages : tie.Need-cast-pages Inv-loop μ-loop
 cast-pages c = omega arith
 
--- src/lib.rt:59:5
 loop-holds : tie.Need-loop-holds Inv-loop μ-loop
 loop-holds c = (rw sub-zero, refl)
 
--- src/lib.rt:60:9
 erase-requires : tie.Need-erase-requires Inv-loop μ-loop
 erase-requires c κs = omega arith
 
--- src/lib.rt:61:9
 add-page : tie.Need-add-page Inv-loop μ-loop
 add-page c = omega arith
 
--- src/lib.rt:59:5
 loop-less : tie.Need-loop-less Inv-loop μ-loop
 loop-less c = omega arith
 
--- src/lib.rt:59:5
 loop-again : tie.Need-loop-again Inv-loop μ-loop
 loop-again c =
     let e = c .before .before in
@@ -45,11 +37,9 @@ loop-again c =
     let s = l .before .before .before in
     (rw (e .erase .ensures) (sym (pages-turn _ _ _ _ (e .before .before .loop-test .taken)) ∙ l .loop .inv .0), ap length (e .erase .ensures) ∙ erased-length _ _ _ (omega arith) ∙ l .loop .inv .1)
 
--- src/lib.rt:53:1
 same-length : tie.Need-same-length Inv-loop μ-loop
 same-length c = c .before .loop .inv .1
 
--- src/lib.rt:53:1
 returns : tie.Need-returns Inv-loop μ-loop
 unfolding erasedAll
 returns c = sym (pages-end _ _ _ _ (c .loop-test .left)) ∙ c .before .loop .inv .0

@@ -1,15 +1,13 @@
+-- `memory::is_blank` meets its contract. Assumes nothing.
 use native.Mathlib.Omega.{arith}
 use Rattle.memory.proofs.Flash.{blank-white, blank-kept, blank-not, blank-end, blank-span}
 use Rattle.memory.specs.Flash.{blank}
-use borrow.Author.Tests.{not-true, not-false, eq-eqb, ne-eqb}
+use borrow.Author.Tests.{not-true, not-false}
 use Prim.Native.Nat.{_-_, _≤_}
 use mathlib.Core.Logic.{⊎-elim}
-use mathlib.Core.Path.{_≡_, refl, sym, _∙_}
+use mathlib.Core.Path.{_≡_, sym, _∙_}
 use Rattle.memory.proofs.is_blank.Statement.{statement}
 use Rattle.memory.proofs.is_blank.Tie as tie
-use Rattle.memory.proofs.is_blank.Reads as reads
-use Rattle.memory.proofs.is_blank.Lts as lts
-use Rattle.board.proofs.write_protected.Reads as write-protected-reads
 
 abbrev Inv-loop : tie.InvT-loop
 Inv-loop memory word at count end i₀ i = (blank word i (end - i) memory ≡ blank word at count memory) × (at ≤ i)
@@ -17,48 +15,41 @@ Inv-loop memory word at count end i₀ i = (blank word i (end - i) memory ≡ bl
 abbrev μ-loop : tie.MeasureT-loop
 μ-loop memory word at count end i₀ i = end - i
 
--- src/lib.rt:15:15
 add-end : tie.Need-add-end Inv-loop μ-loop
 add-end c = omega arith
 
--- src/lib.rt:17:5
 loop-holds : tie.Need-loop-holds Inv-loop μ-loop
 loop-holds c = (blank-span _ _ _ _, omega arith)
 
--- src/lib.rt:18:12
 shared-slice-read-if1 : tie.Need-shared-slice-read-if1 Inv-loop μ-loop
 shared-slice-read-if1 c = omega arith
 
--- src/lib.rt:18:34
 write-protected-requires : tie.Need-write-protected-requires Inv-loop μ-loop
 write-protected-requires c κs = omega arith
 
--- src/lib.rt:19:13
 returns : tie.Need-returns Inv-loop μ-loop
 returns c =
     let w = c .before in
     let l = w .before .before .before .before in
     blank-not _ _ _ _ (w .before .before .before .loop-test .taken) (omega arith) (w .before .if1 .taken) (sym (w .write-protected .ensures) ∙ not-true _ (c .if2 .taken)) ∙ l .loop .inv .0
 
--- src/lib.rt:21:9
 add-i : tie.Need-add-i Inv-loop μ-loop
 add-i c = omega arith
 
--- src/lib.rt:17:5
 loop-less : tie.Need-loop-less Inv-loop μ-loop
 loop-less c = omega arith
 
--- src/lib.rt:17:5
 loop-again : tie.Need-loop-again Inv-loop μ-loop
 loop-again c =
     let l = c .before .before .before in
-    let more = c .before .before .loop-test .taken in
-    (⊎-elim
-    (λ w. blank-kept _ _ _ _ more (omega arith) (w .0 .taken) (sym (w .1 .ensures) ∙ not-false _ (w .2 .left)) ∙ l .loop .inv .0)
-    (λ w. blank-white _ _ _ _ more (omega arith) (w .left) ∙ l .loop .inv .0)
-    (c .if1 .came), omega arith)
+    let more = c .before .before .loop-test .taken in (
+      ⊎-elim
+          (λ w. blank-kept _ _ _ _ more (omega arith) (w .0 .taken) (sym (w .1 .ensures) ∙ not-false _ (w .2 .left)) ∙ l .loop .inv .0)
+          (λ w. blank-white _ _ _ _ more (omega arith) (w .left) ∙ l .loop .inv .0)
+          (c .if1 .came),
+      omega arith,
+    )
 
--- src/lib.rt:11:1
 returns-2 : tie.Need-returns-2 Inv-loop μ-loop
 returns-2 c = sym (blank-end _ _ _ _ (c .loop-test .left)) ∙ c .before .loop .inv .0
 

@@ -1,17 +1,15 @@
+-- `memory::store` meets its contract. Assumes nothing.
 use native.Mathlib.Omega.{arith}
 use Rattle.memory.proofs.Flash.{stored-open, stored-kept, stored-end}
 use Rattle.memory.specs.Flash.{stored}
 use borrow.Author.Tests.{not-true, not-false}
 use lib.ListN.{length, drop, length-set}
 use native.Mathlib.Nat.{add-zero}
-use Prim.Native.Nat.{_+_, _-_, _<_}
+use Prim.Native.Nat.{_+_, _-_}
 use mathlib.Core.Logic.{⊎-elim}
 use mathlib.Core.Path.{_≡_, refl, ap, sym, _∙_}
 use Rattle.memory.proofs.store.Statement.{statement}
 use Rattle.memory.proofs.store.Tie as tie
-use Rattle.memory.proofs.store.Reads as reads
-use Rattle.memory.proofs.store.Lts as lts
-use Rattle.board.proofs.write_protected.Reads as write-protected-reads
 
 abbrev Inv-loop : tie.InvT-loop
 Inv-loop memory₀ word at source i₀ memory i = (stored word (at + i) (drop i source) memory ≡ stored word at source memory₀) × (length memory ≡ length memory₀)
@@ -19,39 +17,30 @@ Inv-loop memory₀ word at source i₀ memory i = (stored word (at + i) (drop i 
 abbrev μ-loop : tie.MeasureT-loop
 μ-loop memory₀ word at source i₀ memory i = length source - i
 
--- src/lib.rt:32:5
 loop-holds : tie.Need-loop-holds Inv-loop μ-loop
 loop-holds c = (rw add-zero, refl)
 
--- src/lib.rt:33:43
 add-write-protected : tie.Need-add-write-protected Inv-loop μ-loop
 add-write-protected c = omega arith
 
--- src/lib.rt:33:13
 write-protected-requires : tie.Need-write-protected-requires Inv-loop μ-loop
 write-protected-requires c κs = omega arith
 
--- src/lib.rt:34:30
 shared-slice-read-memory : tie.Need-shared-slice-read-memory Inv-loop μ-loop
 shared-slice-read-memory c = omega arith
 
--- src/lib.rt:34:20
 add-memory : tie.Need-add-memory Inv-loop μ-loop
 add-memory c = omega arith
 
--- src/lib.rt:34:13
 slice-write-memory : tie.Need-slice-write-memory Inv-loop μ-loop
 slice-write-memory c = omega arith
 
--- src/lib.rt:36:9
 add-i : tie.Need-add-i Inv-loop μ-loop
 add-i c = omega arith
 
--- src/lib.rt:32:5
 loop-less : tie.Need-loop-less Inv-loop μ-loop
 loop-less c = omega arith
 
--- src/lib.rt:32:5
 loop-again : tie.Need-loop-again Inv-loop μ-loop
 loop-again c =
     let l = c .before .before .before .loop in
@@ -62,11 +51,9 @@ loop-again c =
     (λ w. (stored-kept _ _ _ _ _ _ more (omega arith) (is ∙ not-false _ (w .0 .left)) (w .1) ∙ l .inv .0, ap length (w .1) ∙ l .inv .1))
     (c .if1 .came)
 
--- src/lib.rt:27:1
 same-length : tie.Need-same-length Inv-loop μ-loop
 same-length c = c .before .loop .inv .1
 
--- src/lib.rt:27:1
 returns : tie.Need-returns Inv-loop μ-loop
 returns c = sym (stored-end _ _ _ _ _ (c .loop-test .left)) ∙ c .before .loop .inv .0
 

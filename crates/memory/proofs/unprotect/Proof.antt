@@ -1,49 +1,33 @@
+-- `memory::unprotect` meets its contract. Assumes nothing.
 use Rattle.memory.proofs.Whole.{unprotected-is}
-use mathlib.Core.Path.{_∙_, sym, ap}
 use borrow.Author.Needs.{needs}
 use Rattle.memory.proofs.unprotect.Statement.{statement}
 use Rattle.memory.proofs.unprotect.Tie as tie
-use Rattle.memory.proofs.unprotect.Reads as reads
-use Rattle.memory.proofs.unprotect.Lts as lts
-use Rattle.board.proofs.Board.default_options.Reads as default-options-reads
-use Rattle.board.proofs.Board.options_from.Reads as options-from-reads
-use Rattle.board.proofs.Board.ram_from.Reads as ram-from-reads
-use Rattle.buffer.proofs.fill.Reads as fill-reads
-use Rattle.buffer.proofs.put.Reads as put-reads
 
--- src/lib.rt:79:9
 ram-from-requires : tie.Need-ram-from-requires
 ram-from-requires c κs = search needs
 
--- src/lib.rt:80:9
 options-from-requires : tie.Need-options-from-requires
 options-from-requires c κs = search needs
 
--- src/lib.rt:81:20
 default-options-requires : tie.Need-default-options-requires
 default-options-requires c κs = search needs
 
--- src/lib.rt:82:5
 fill-requires : tie.Need-fill-requires
 fill-requires c κs = search needs
 
--- src/lib.rt:83:5
 fill-requires-2 : tie.Need-fill-requires-2
 fill-requires-2 c κs = search needs
 
--- src/lib.rt:84:34
 slice-aggregate-put : tie.Need-slice-aggregate-put
 slice-aggregate-put c = search needs
 
--- src/lib.rt:84:5
 put-requires : tie.Need-put-requires
 put-requires c κs = search needs
 
--- src/lib.rt:75:1
 same-length : tie.Need-same-length
 same-length c = search needs
 
--- src/lib.rt:75:1
 returns : tie.Need-returns
 returns c =
     let p = c .before .before in

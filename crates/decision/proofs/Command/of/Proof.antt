@@ -1,72 +1,54 @@
+-- `decision::Command::of` meets its contract. Assumes nothing.
 use Rattle.decision.specs.Decide.{commandOf}
 use borrow.Author.Needs.{needs}
 use Rattle.decision.proofs.Command.of.Statement.{statement}
 use Rattle.decision.proofs.Command.of.Tie as tie
-use Rattle.decision.proofs.Command.of.Reads as reads
-use Rattle.decision.proofs.Command.of.Lts as lts
-use Rattle.buffer.proofs.byte_at.Reads as byte-at-reads
 
--- src/lib.rt:37:13
 byte-at-requires : tie.Need-byte-at-requires
 byte-at-requires c κs = search needs
 
--- src/lib.rt:38:13
 byte-at-requires-2 : tie.Need-byte-at-requires-2
 byte-at-requires-2 c κs = search needs
 
--- src/lib.rt:39:13
 byte-at-requires-3 : tie.Need-byte-at-requires-3
 byte-at-requires-3 c κs = search needs
 
--- src/lib.rt:40:13
 byte-at-requires-4 : tie.Need-byte-at-requires-4
 byte-at-requires-4 c κs = search needs
 
--- src/lib.rt:41:13
 byte-at-requires-5 : tie.Need-byte-at-requires-5
 byte-at-requires-5 c κs = search needs
 
--- src/lib.rt:44:22
 cast-t7 : tie.Need-cast-t7
 cast-t7 c = search needs
 
--- src/lib.rt:44:33
 cast-t8 : tie.Need-cast-t8
 cast-t8 c = search needs
 
--- src/lib.rt:44:33
 mul-t9 : tie.Need-mul-t9
 mul-t9 c = search needs
 
--- src/lib.rt:44:22
 add-t10 : tie.Need-add-t10
 add-t10 c = search needs
 
--- src/lib.rt:44:52
 cast-t11 : tie.Need-cast-t11
 cast-t11 c = search needs
 
--- src/lib.rt:44:52
 mul-t12 : tie.Need-mul-t12
 mul-t12 c = search needs
 
--- src/lib.rt:44:22
 add-t13 : tie.Need-add-t13
 add-t13 c = search needs
 
--- src/lib.rt:44:74
 cast-t14 : tie.Need-cast-t14
 cast-t14 c = search needs
 
--- src/lib.rt:44:74
 mul-t15 : tie.Need-mul-t15
 mul-t15 c = search needs
 
--- src/lib.rt:44:22
 add-t16 : tie.Need-add-t16
 add-t16 c = search needs
 
--- src/lib.rt:34:5
 returns : tie.Need-returns
 unfolding commandOf
 returns c =

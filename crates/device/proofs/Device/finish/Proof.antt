@@ -1,24 +1,18 @@
+-- `device::Device::finish` meets its contract. Assumes nothing.
 use borrow.Author.Tests.{ne-eqb}
 use borrow.Author.Needs.{needs}
 use Rattle.device.proofs.Device.finish.Statement.{statement}
 use Rattle.device.proofs.Device.finish.Tie as tie
-use Rattle.device.proofs.Device.finish.Reads as reads
-use Rattle.device.proofs.Device.finish.Lts as lts
-use Rattle.device.proofs.Device.fail.Reads as fail-reads
 
--- src/lib.rt:202:13
 fail-requires : tie.Need-fail-requires
 fail-requires c κs = search needs
 
--- src/lib.rt:202:13
 returns : tie.Need-returns
 returns c = simp (c .fail .ensures, ne-eqb _ _ (c .before .if1 .taken))
 
--- src/lib.rt:206:13
 returns-2 : tie.Need-returns-2
 returns-2 c = simp (c .before .if1 .left, c .if2 .taken)
 
--- src/lib.rt:198:5
 returns-3 : tie.Need-returns-3
 returns-3 c = simp (c .before .if1 .left, c .if2 .left)
 

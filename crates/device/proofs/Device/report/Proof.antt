@@ -1,38 +1,29 @@
+-- `device::Device::report` meets its contract. Assumes nothing.
 use Rattle.device.specs.State.{reportOf}
 use borrow.Author.Tests.{ne-eqb}
 use mathlib.Core.Path.{sym, _∙_}
 use borrow.Author.Needs.{needs}
 use Rattle.device.proofs.Device.report.Statement.{statement}
 use Rattle.device.proofs.Device.report.Tie as tie
-use Rattle.device.proofs.Device.report.Reads as reads
-use Rattle.device.proofs.Device.report.Lts as lts
-use Rattle.device.proofs.Mode.wire.Reads as wire-reads
-use Rattle.device.proofs.Ran.report.Reads as report-reads
 
--- src/lib.rt:226:13
 wire-requires : tie.Need-wire-requires
 wire-requires c κs = search needs
 
--- src/lib.rt:229:18
 report-requires : tie.Need-report-requires
 report-requires c κs = search needs
 
--- src/lib.rt:222:5
 returns : tie.Need-returns
 unfolding reportOf
 returns c = simp (c .report .ensures, sym (c .before .before .wire .ensures) ∙ c .before .match .keys1)
 
--- src/lib.rt:222:5
 returns-2 : tie.Need-returns-2
 unfolding reportOf
 returns-2 c = simp (sym (c .before .wire .ensures) ∙ c .match .keys2)
 
--- src/lib.rt:222:5
 returns-3 : tie.Need-returns-3
 unfolding reportOf
 returns-3 c = simp (sym (c .before .wire .ensures) ∙ c .match .keys3)
 
--- src/lib.rt:222:5
 returns-4 : tie.Need-returns-4
 unfolding reportOf
 returns-4 c =

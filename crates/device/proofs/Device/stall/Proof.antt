@@ -1,30 +1,22 @@
+-- `device::Device::stall` meets its contract. Assumes nothing.
 use borrow.Author.Tests.{ne-eqb}
 use mathlib.Core.Path.{sym, _∙_}
 use borrow.Author.Needs.{needs}
 use Rattle.device.proofs.Device.stall.Statement.{statement}
 use Rattle.device.proofs.Device.stall.Tie as tie
-use Rattle.device.proofs.Device.stall.Reads as reads
-use Rattle.device.proofs.Device.stall.Lts as lts
-use Rattle.device.proofs.Device.fail.Reads as fail-reads
-use Rattle.device.proofs.Mode.wire.Reads as wire-reads
 
--- src/lib.rt:170:12
 wire-requires : tie.Need-wire-requires
 wire-requires c κs = search needs
 
--- src/lib.rt:171:13
 fail-requires : tie.Need-fail-requires
 fail-requires c κs = search needs
 
--- src/lib.rt:171:13
 returns : tie.Need-returns
 returns c = simp (c .fail .ensures, sym (c .before .before .wire .ensures) ∙ c .before .if1 .taken)
 
--- src/lib.rt:173:9
 fail-requires-2 : tie.Need-fail-requires-2
 fail-requires-2 c κs = search needs
 
--- src/lib.rt:166:5
 returns-2 : tie.Need-returns-2
 returns-2 c =
     let is = c .before .before .wire .ensures in

@@ -1,47 +1,35 @@
+-- `device::Device::status` meets its contract. Assumes nothing.
 use Rattle.device.specs.State.{afterStatus}
 use borrow.Author.Tests.{ne-eqb}
 use mathlib.Core.Path.{sym, _∙_}
 use borrow.Author.Needs.{needs}
 use Rattle.device.proofs.Device.status.Statement.{statement}
 use Rattle.device.proofs.Device.status.Tie as tie
-use Rattle.device.proofs.Device.status.Reads as reads
-use Rattle.device.proofs.Device.status.Lts as lts
-use Rattle.device.proofs.Device.enter.Reads as enter-reads
-use Rattle.device.proofs.Device.finish.Reads as finish-reads
-use Rattle.device.proofs.Mode.wire.Reads as wire-reads
 
--- src/lib.rt:188:13
 wire-requires : tie.Need-wire-requires
 wire-requires c κs = search needs
 
--- src/lib.rt:190:18
 finish-requires : tie.Need-finish-requires
 finish-requires c κs = search needs
 
--- src/lib.rt:191:18
 enter-requires : tie.Need-enter-requires
 enter-requires c κs = search needs
 
--- src/lib.rt:192:18
 enter-requires-2 : tie.Need-enter-requires-2
 enter-requires-2 c κs = search needs
 
--- src/lib.rt:184:5
 returns : tie.Need-returns
 unfolding afterStatus
 returns c = simp (c .finish .ensures, sym (c .before .before .wire .ensures) ∙ c .before .match .keys1)
 
--- src/lib.rt:184:5
 returns-2 : tie.Need-returns-2
 unfolding afterStatus
 returns-2 c = simp (c .enter .ensures, sym (c .before .before .wire .ensures) ∙ c .before .match .keys2)
 
--- src/lib.rt:184:5
 returns-3 : tie.Need-returns-3
 unfolding afterStatus
 returns-3 c = simp (c .enter2 .ensures, sym (c .before .before .wire .ensures) ∙ c .before .match .keys3)
 
--- src/lib.rt:184:5
 returns-4 : tie.Need-returns-4
 unfolding afterStatus
 returns-4 c =

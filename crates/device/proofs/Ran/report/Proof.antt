@@ -1,14 +1,11 @@
+-- `device::Ran::report` meets its contract. Assumes nothing.
 use borrow.Author.Tests.{ne-eqb}
 use Rattle.device.proofs.Ran.report.Statement.{statement}
 use Rattle.device.proofs.Ran.report.Tie as tie
-use Rattle.device.proofs.Ran.report.Reads as reads
-use Rattle.device.proofs.Ran.report.Lts as lts
 
--- src/lib.rt:262:13
 returns : tie.Need-returns
 returns c = simp (ne-eqb _ _ (c .if1 .taken))
 
--- src/lib.rt:257:5
 returns-2 : tie.Need-returns-2
 returns-2 c = simp (c .if1 .left)
 

@@ -1,0 +1,78 @@
+-- Laws of `runOf`, `statusOf`, `readOf` and `serveOf`, in the terms in which the code meets them. Assumes nothing.
+use mathlib.Core.Path.{_≡_, refl, ap, _∙_, sym}
+use mathlib.Core.Bool.{Bool, true, false}
+use mathlib.Core.List.{List}
+use Prim.Native.Nat.{ℕ, _+_, _-_, _≤_}
+use native.Mathlib.Omega.{arith}
+use lib.ListN.{length, take, drop}
+use borrow.Author.Tests.{ne-eqb}
+use Rattle.laws.specs.Bytes.{put}
+use Rattle.laws.proofs.Bytes.{rest-is, take-at-most}
+use Rattle.board.specs.Protection.{readProtected}
+use Rattle.request.specs.declared.Setup.{Setup}
+use Rattle.request.specs.Request.{transferBytes}
+use Rattle.request.specs.Setup.{setupOf, dataLength, fitsOf}
+use Rattle.request.proofs.Lengths.{fits-data, data-at-most}
+use Rattle.device.specs.declared.Device.{Device}
+use Rattle.device.specs.declared.Ran.{Ran}
+use Rattle.device.specs.declared.Report.{Report}
+use Rattle.device.specs.Wire.{wireOf}
+use Rattle.device.specs.State.{afterStatus, reportOf}
+use Rattle.decision.specs.declared.Command.{Command}
+use Rattle.decision.specs.declared.Decision.{Decision}
+use Rattle.decision.specs.declared.Decision.the-variants.{Read}
+use Rattle.decision.specs.Decide.{commandOf, decideOf}
+use Rattle.decision.proofs.Bounds.{Bounded, decide-bounded}
+use Rattle.action.specs.declared.Access.{Access}
+use Rattle.action.specs.declared.Action.{Action}
+use Rattle.action.specs.Access.{accessOf, blockAddress}
+use Rattle.action.specs.Action.{actionOf, ranOf}
+use Rattle.action.proofs.Spans.{Granted, access-granted}
+use Rattle.loader.specs.declared.Answer.the-variants.{Reply}
+use Rattle.loader.specs.Answer.{Outcome, outcome}
+use Rattle.loader.specs.Perform.{Performed, performed, performedOf}
+use Rattle.loader.specs.Serve.{Run, run, runOf, performs, statusBytes, reported, statusOf, readAt, readOf, actedOf, serveOf}
+
+-- nothing runs outside mode 3
+pub run-rests : (n : ℕ) (d : Device) (b m : List ℕ) → (wireOf (d .mode) ≡ 3 → ⊥) → run (record { status = 0; pointer = d .pointer; reboots = false }) m ≡ runOf n d b m
+unfolding runOf
+run-rests n d b m h = rw (ne-eqb (wireOf (d .mode)) 3 h)
+
+-- in mode 3 the action of the pending command does
+pub run-performs : (n : ℕ) (d : Device) (b m m′ : List ℕ) (protected : Bool) (action : Action) (status : ℕ) (ran : Ran) → wireOf (d .mode) ≡ 3 → protected ≡ readProtected n m → action ≡ actionOf n protected d → performed status m′ ≡ performedOf n action b m → ran ≡ ranOf action (d .pointer) status → run ran m′ ≡ runOf n d b m
+unfolding runOf
+run-performs n d b m m′ protected action status ran w p a f r =
+    rw (w, ← p, ← a, r) (ap (λ (x : Performed). run (ranOf action (d .pointer) (x .status)) (x .memory)) f)
+
+pub status-is : (n : ℕ) (d d′ : Device) (m m′ b y y′ : List ℕ) (ran : Ran) (report : Report) → run ran m′ ≡ runOf n d b m → report ≡ reportOf d ran → y′ ≡ put 0 (statusBytes report) y → d′ ≡ afterStatus d ran → outcome (Reply 6) d′ m′ b y′ ≡ statusOf n d m b y
+unfolding statusOf
+status-is n d d′ m m′ b y y′ ran report r t w s = rw (w, t, s) (ap (λ (x : Run). reported x d b y) r)
+
+-- x is the access that was found
+pub read-is : (n : ℕ) (d : Device) (s : Setup) (m b y : List ℕ) (protected : Bool) (address : ℕ) (access x : Access) → protected ≡ readProtected n m → address ≡ blockAddress (s .value) (s .length) (d .pointer) → access ≡ accessOf n protected address (s .length) → access ≡ x → readAt x (s .length) d m b y ≡ readOf n d s m b y
+unfolding readOf
+read-is n d s m b y protected address access x p a e t = rw (← t, e, a, p)
+
+pub read-granted : (n : ℕ) (protected : Bool) (address count : ℕ) (access x : Access) → access ≡ accessOf n protected address count → access ≡ x → Granted n count x
+read-granted n protected address count access x e t = rw (← t, e) (access-granted n protected address count)
+
+-- x is the decision that was made
+module _ (n : ℕ) (d : Device) (q m b y : List ℕ) (setup : Setup) (command : Command) (decision x : Decision) where
+  pub serve-is : setup ≡ setupOf q → command ≡ commandOf (take (length q - 8) (drop 8 q)) → decision ≡ decideOf d setup command → decision ≡ x → actedOf x n d q m b y ≡ serveOf n d q m b y
+  unfolding serveOf
+  serve-is s k e t = rw (← t, e, k, s, rest-is 8 q)
+
+-- memory is read by the setup that was taken from the request
+pub serve-reads : (n : ℕ) (d : Device) (q m b y : List ℕ) (setup : Setup) (command : Command) (decision : Decision) → setup ≡ setupOf q → command ≡ commandOf (take (length q - 8) (drop 8 q)) → decision ≡ decideOf d setup command → decision ≡ Read → readOf n d setup m b y ≡ serveOf n d q m b y
+serve-reads n d q m b y setup command decision s k e t =
+    ap (λ (x : Setup). readOf n d x m b y) s ∙ serve-is n d q m b y setup command decision Read s k e t
+
+pub decided-bounded : (d : Device) (setup : Setup) (command : Command) (decision x : Decision) → decision ≡ decideOf d setup command → decision ≡ x → Bounded setup x
+decided-bounded d setup command decision x e t = rw (← t, e) (decide-bounded d setup command)
+
+-- the data stage is no longer than what the setup allows
+pub stage-short : (q : List ℕ) (setup : Setup) → setup ≡ setupOf q → fitsOf q ≡ true → setup .length ≤ transferBytes → 0 + length (take (length q - 8) (drop 8 q)) ≤ transferBytes
+stage-short q setup s f h =
+    let data-most : dataLength setup ≤ setup .length = data-at-most setup in
+    let all : length q ≡ 8 + dataLength setup = fits-data q f ∙ rw (← s) in
+    omega (arith, take-at-most (length q - 8) (drop 8 q))

@@ -1,0 +1,54 @@
+-- `loader::run` meets its contract. Assumes nothing.
+use native.Mathlib.Omega.{arith}
+use Rattle.loader.proofs.Requests.{run-rests, run-performs}
+use Rattle.loader.proofs.Bounds.{action-fits}
+use mathlib.Core.Path.{_∙_, sym}
+use borrow.Author.Needs.{needs}
+use Rattle.loader.proofs.run.Statement.{statement}
+use Rattle.loader.proofs.run.Tie as tie
+
+wire-requires : tie.Need-wire-requires
+wire-requires c κs = search needs
+
+returns : tie.Need-returns
+returns c =
+    let is = c .before .wire .ensures in
+    run-rests _ _ _ _ (λ e. c .if1 .taken (is ∙ e))
+
+read-protected-requires : tie.Need-read-protected-requires
+read-protected-requires c κs = search needs
+
+intend-requires : tie.Need-intend-requires
+intend-requires c κs = search needs
+
+perform-requires : tie.Need-perform-requires
+perform-requires c κs =
+    let s = c .before .before .before .before .before .before .before .before in
+    let f = action-fits _ (c .before .before .read-protected .result) (s .args .device) (s .pre .2) in
+    rw (c .before .intend .ensures) (s .pre .0, f .ends, omega arith)
+
+ran-requires : tie.Need-ran-requires
+ran-requires c κs = search needs
+
+same-length : tie.Need-same-length
+same-length c = search needs
+
+returns-2 : tie.Need-returns-2
+returns-2 c =
+    let p = c .before .before .before in
+    let a = p .before .before in
+    let w = a .before .before .before in
+    run-performs _ _ _ _ _ _ _ _ _ (sym (w .before .wire .ensures) ∙ w .if1 .left) (a .before .read-protected .ensures) (a .intend .ensures) (p .perform .ensures) (c .ran .ensures)
+
+pub run-spec : {M : Type 1} → statement M
+run-spec =
+    tie.close
+    (tie.spec
+    wire-requires
+    returns
+    read-protected-requires
+    intend-requires
+    perform-requires
+    ran-requires
+    same-length
+    returns-2)

@@ -1,0 +1,4 @@
+pub mod Answer
+pub mod Perform
+pub mod Serve
+pub mod Step

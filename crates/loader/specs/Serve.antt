@@ -1,0 +1,105 @@
+-- A request that a loader in order takes. Document 01, "Events", "GETSTATUS", "UPLOAD". Assumes nothing.
+use mathlib.Core.Path.{_≡_}
+use mathlib.Core.Bool.{cond, true, false}
+use mathlib.Core.List.{List, [], _∷_}
+use Prim.Native.Nat.{ℕ}
+use lib.Dec.{eqb}
+use lib.ListN.{length, take, drop}
+use Rattle.laws.specs.Bytes.{put}
+use Rattle.board.specs.Layout.{memoryBytes}
+use Rattle.board.specs.Protection.{readProtected}
+use Rattle.request.specs.declared.Setup.{Setup}
+use Rattle.request.specs.Request.{transferBytes}
+use Rattle.request.specs.Setup.{setupOf, fitsOf}
+use Rattle.device.specs.declared.Device.{Device}
+use Rattle.device.specs.declared.Mode.the-variants.{UploadIdle}
+use Rattle.device.specs.declared.Ran.{Ran}
+use Rattle.device.specs.declared.Report.{Report}
+use Rattle.device.specs.Wire.{wireOf, isMode}
+use Rattle.device.specs.State.{entered, stalled, afterStatus, reportOf}
+use Rattle.device.specs.WellFormed.{wellFormed}
+use Rattle.decision.specs.declared.Decision.{Decision}
+use Rattle.decision.specs.declared.Decision.the-variants as decided
+use Rattle.decision.specs.Decide.{commandOf, decideOf}
+use Rattle.action.specs.declared.Access.{Access}
+use Rattle.action.specs.declared.Access.the-variants.{Denied, InFlash, InRam, InOptions}
+use Rattle.action.specs.declared.Action.{Action}
+use Rattle.action.specs.Access.{accessOf, blockAddress}
+use Rattle.action.specs.Action.{actionOf, ranOf}
+use Rattle.loader.specs.declared.Answer.the-variants.{Accepted, Reply, Stall, Silent}
+use Rattle.loader.specs.Answer.{Outcome, outcome}
+use Rattle.loader.specs.Perform.{Performed, performedOf}
+
+-- "The poll time is 100 when mode 4 is reported, else 0"
+abbrev pub pollOf : ℕ → ℕ
+pollOf state = cond (eqb state 4) 100 0
+
+-- "GETSTATUS replies status, poll time (three bytes, low first), mode, 0"
+abbrev pub statusBytes : Report → List ℕ
+statusBytes report = report .status ∷ pollOf (report .state) ∷ 0 ∷ 0 ∷ report .state ∷ 0 ∷ []
+
+-- what the pending command came to, and the memory after it
+pub record Run : Type 0 where
+  pub ran : Ran
+  pub memory : List ℕ
+
+abbrev pub run : Ran → List ℕ → Run
+run r m = record { ran = r; memory = m }
+
+-- the pending command, run on memory m
+abbrev pub performs : ℕ → Action → Device → List ℕ → List ℕ → Run
+performs n action d b m = run (ranOf action (d .pointer) (performedOf n action b m .status)) (performedOf n action b m .memory)
+
+-- "In mode 3 the command runs first"; in the others nothing is pending
+unfoldable pub runOf : ℕ → Device → List ℕ → List ℕ → Run
+runOf n d b m =
+    cond (isMode 3 (d .mode)) (performs n (actionOf n (readProtected n m) d) d b m)
+    (run (record { status = 0; pointer = d .pointer; reboots = false }) m)
+
+-- "GETSTATUS", r being what ran
+abbrev pub reported : Run → Device → List ℕ → List ℕ → Outcome
+reported r d b y = outcome (Reply 6) (afterStatus d (r .ran)) (r .memory) b (put 0 (statusBytes (reportOf d (r .ran))) y)
+
+unfoldable pub statusOf : ℕ → Device → List ℕ → List ℕ → List ℕ → Outcome
+statusOf n d m b y = reported (runOf n d b m) d b y
+
+-- "UPLOAD": memory from place `at` on
+abbrev pub sentOf : ℕ → ℕ → Device → List ℕ → List ℕ → List ℕ → Outcome
+sentOf at count d m b y = outcome (Reply count) (entered d UploadIdle) m b (put 0 (take count (drop at m)) y)
+
+-- "From 2 on it reads memory and enters mode 9; its errors are Stalls with the status below"
+abbrev pub readAt : Access → ℕ → Device → List ℕ → List ℕ → List ℕ → Outcome
+readAt (Denied status) count d m b y = outcome Stall (stalled d status) m b y
+readAt (InFlash at) count d m b y = sentOf at count d m b y
+readAt (InRam at) count d m b y = sentOf at count d m b y
+readAt (InOptions at) count d m b y = sentOf at count d m b y
+
+unfoldable pub readOf : ℕ → Device → Setup → List ℕ → List ℕ → List ℕ → Outcome
+readOf n d s m b y = readAt (accessOf n (readProtected n m) (blockAddress (s .value) (s .length) (d .pointer)) (s .length)) (s .length) d m b y
+
+-- "00 21 41 92"
+abbrev pub commandCodes : List ℕ
+commandCodes = 0x00 ∷ 0x21 ∷ 0x41 ∷ 0x92 ∷ []
+
+-- a call that no refusal stops
+pub record InOrder (n : ℕ) (d : Device) (q m b y : List ℕ) : Type 0 where
+  pub memory : length m ≡ memoryBytes n
+  pub block : length b ≡ transferBytes
+  pub reply : length y ≡ transferBytes
+  pub device : wellFormed n d ≡ true
+  pub request : fitsOf q ≡ true
+
+-- what a decision comes to; q is the request, and "the data stage is the part of the event after its eighth byte"
+abbrev pub actedOf : Decision → ℕ → Device → List ℕ → List ℕ → List ℕ → List ℕ → Outcome
+actedOf decided.Silent n d q m b y = outcome Silent d m b y
+actedOf (decided.Stall next) n d q m b y = outcome Stall next m b y
+actedOf (decided.Accept next) n d q m b y = outcome Accepted next m b y
+actedOf (decided.Take next) n d q m b y = outcome Accepted next m (put 0 (drop 8 q) b) y
+actedOf (decided.Commands next count) n d q m b y = outcome (Reply count) next m b (put 0 (take count commandCodes) y)
+actedOf decided.Read n d q m b y = readOf n d (setupOf q) m b y
+actedOf decided.State n d q m b y = outcome (Reply 1) d m b (put 0 (wireOf (d .mode) ∷ []) y)
+actedOf decided.Status n d q m b y = statusOf n d m b y
+
+-- "Events": a request
+unfoldable pub serveOf : ℕ → Device → List ℕ → List ℕ → List ℕ → List ℕ → Outcome
+serveOf n d q m b y = actedOf (decideOf d (setupOf q) (commandOf (drop 8 q))) n d q m b y

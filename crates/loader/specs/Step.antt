@@ -1,0 +1,54 @@
+-- One event. Document 01, "Events" and the rows of "Refusal numbers" that name step. Assumes nothing.
+use mathlib.Core.Bool.{Bool, cond, not}
+use mathlib.Core.List.{List}
+use Prim.Native.Nat.{ℕ}
+use lib.Dec.{eqb}
+use lib.ListN.{length}
+use Rattle.board.specs.Layout.{memoryBytes}
+use Rattle.refusal.specs.declared.Refusal.{Refusal}
+use Rattle.refusal.specs.declared.Refusal.the-variants as refusal
+use Rattle.request.specs.Request.{transferBytes}
+use Rattle.request.specs.Setup.{fitsOf}
+use Rattle.device.specs.declared.Device.{Device}
+use Rattle.device.specs.State.{started}
+use Rattle.device.specs.WellFormed.{wellFormed}
+use Rattle.loader.specs.declared.Event.{Event}
+use Rattle.loader.specs.declared.Event.the-variants as event
+use Rattle.loader.specs.declared.Answer.the-variants.{Accepted, Refused}
+use Rattle.loader.specs.declared.Sizes.{Sizes}
+use Rattle.loader.specs.declared.Admission.{Admission}
+use Rattle.loader.specs.declared.Admission.the-variants as admission
+use Rattle.loader.specs.Answer.{Outcome, outcome}
+use Rattle.loader.specs.Serve.{serveOf}
+
+-- row 5, which is of requests alone
+abbrev pub admittedIn : Event → List ℕ → Admission
+admittedIn event.Attach q = admission.Admitted
+admittedIn event.Request q = cond (fitsOf q) admission.Admitted (admission.Refused refusal.Request)
+
+-- rows 1 to 5, "checked in this order"
+unfoldable pub admittedOf : ℕ → Device → Event → List ℕ → Sizes → Admission
+admittedOf n d e q s =
+    cond (not (eqb (s .memory) (memoryBytes n))) (admission.Refused refusal.Memory)
+    (cond (not (eqb (s .block) transferBytes)) (admission.Refused refusal.Block)
+    (cond (not (eqb (s .reply) transferBytes)) (admission.Refused refusal.Reply)
+    (cond (not (wellFormed n d)) (admission.Refused refusal.State)
+    (admittedIn e q))))
+
+-- "Attach .. its answer is Accepted and all buffers stay", or a request
+abbrev pub happens : Event → ℕ → Device → List ℕ → List ℕ → List ℕ → List ℕ → Outcome
+happens event.Attach n d q m b y = outcome Accepted started m b y
+happens event.Request n d q m b y = serveOf n d q m b y
+
+-- "A refusal leaves state and every buffer unchanged"
+abbrev pub steps : Admission → Event → ℕ → Device → List ℕ → List ℕ → List ℕ → List ℕ → Outcome
+steps admission.Admitted e n d q m b y = happens e n d q m b y
+steps (admission.Refused r) e n d q m b y = outcome (Refused r) d m b y
+
+-- the lengths of the three buffers
+abbrev pub sizesOf : List ℕ → List ℕ → List ℕ → Sizes
+sizesOf m b y = record { memory = length m; block = length b; reply = length y }
+
+-- an event e on a board with n pages, with the device d, the request q, the memory m, the block buffer b and the reply buffer y
+unfoldable pub stepOf : ℕ → Device → Event → List ℕ → List ℕ → List ℕ → List ℕ → Outcome
+stepOf n d e q m b y = steps (admittedOf n d e q (sizesOf m b y)) e n d q m b y

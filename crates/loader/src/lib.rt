@@ -1,0 +1,331 @@
+// The loader: one event at a time, over memory that the caller lends. It decides by value, by the
+// functions of the crates above, and acts on the buffers here.
+ghost use mathlib.Core.Path.{_≡_};
+ghost use mathlib.Core.Bool.{true};
+ghost use mathlib.Core.List.{List, [], _∷_};
+ghost use Prim.Native.Nat.{ℕ, _+_, _≤_};
+ghost use lib.ListN.{length, take};
+ghost use Rattle.laws.specs.Bytes.{put};
+ghost use Rattle.board.specs.Layout.{loggerPages, memoryBytes};
+ghost use Rattle.request.specs.Request.{transferBytes};
+ghost use Rattle.device.specs.WellFormed.{wellFormed};
+ghost use Rattle.loader.specs.Answer.{left};
+ghost use Rattle.loader.specs.Perform.{performed, performedOf, writtenOf, endOf, countOf};
+ghost use Rattle.loader.specs.Serve.{InOrder, run, runOf, statusBytes, statusOf, pollOf, readOf, sentOf, serveOf, commandCodes};
+ghost use Rattle.loader.specs.Step.{admittedOf, admittedIn, stepOf};
+use action::Access;
+use action::Action;
+use board::Board;
+use decision::Command;
+use decision::Decision;
+use device::Device;
+use device::Mode;
+use device::Ran;
+use device::Report;
+use refusal::Refusal;
+use request::Setup;
+
+// What happens to the device: it is plugged in, or the host asks for something.
+pub enum Event {
+    Attach,
+    Request,
+}
+
+pub enum Answer {
+    Accepted,
+    // This many bytes stand at the front of the reply buffer.
+    Reply(usize),
+    Stall,
+    Silent,
+    // The call itself was wrong: nothing changed.
+    Refused(Refusal),
+}
+
+pub struct Stepped {
+    pub device: Device,
+    pub answer: Answer,
+}
+
+// The lengths of the lent buffers.
+pub struct Sizes {
+    pub memory: usize,
+    pub block: usize,
+    pub reply: usize,
+}
+
+// Whether a call is one that the loader takes.
+pub enum Admission {
+    Admitted,
+    Refused(Refusal),
+}
+
+// One event. For an Attach the request is not looked at.
+pub fn step(
+    device: Device,
+    event: Event,
+    request: &[u8],
+    memory: &mut [u8],
+    block: &mut [u8],
+    reply: &mut [u8],
+) -> Stepped
+    ensures { λ r. ⌜ left r (now (memory .exit)) (now (block .exit)) (now (reply .exit)) ≡ stepOf loggerPages device event (now (request .entry)) (now (memory .entry)) (now (block .entry)) (now (reply .entry)) ⌝ }
+{
+    let board = Board::LOGGER;
+    let sizes = Sizes {
+        memory: memory.len(),
+        block: block.len(),
+        reply: reply.len(),
+    };
+    let admission = admit(board, device, event, request, sizes);
+    match admission {
+        Admission::Refused(refusal) => Stepped {
+            device,
+            answer: Answer::Refused(refusal),
+        },
+        Admission::Admitted => match event {
+            Event::Attach => Stepped {
+                device: device.attach(),
+                answer: Answer::Accepted,
+            },
+            Event::Request => serve(board, device, request, memory, block, reply),
+        },
+    }
+}
+
+// The refusals of a step, in their order.
+fn admit(board: Board, device: Device, event: Event, request: &[u8], sizes: Sizes) -> Admission
+    ensures { λ r. ⌜ r ≡ admittedOf (board .pages) device event (now (request .entry)) sizes ⌝ }
+{
+    if sizes.memory != board.memory_bytes() {
+        return Admission::Refused(Refusal::Memory);
+    }
+    if sizes.block != Setup::TRANSFER as usize {
+        return Admission::Refused(Refusal::Block);
+    }
+    if sizes.reply != Setup::TRANSFER as usize {
+        return Admission::Refused(Refusal::Reply);
+    }
+    if !device.well_formed(board) {
+        return Admission::Refused(Refusal::State);
+    }
+    match event {
+        Event::Attach => Admission::Admitted,
+        Event::Request => admit_request(request),
+    }
+}
+
+fn admit_request(request: &[u8]) -> Admission
+    ensures { λ r. ⌜ r ≡ admittedIn Event.Request (now (request .entry)) ⌝ }
+{
+    if request::fits(request) {
+        return Admission::Admitted;
+    }
+    Admission::Refused(Refusal::Request)
+}
+
+// A request, on a device and buffers that are in order.
+fn serve(
+    board: Board,
+    device: Device,
+    request: &[u8],
+    memory: &mut [u8],
+    block: &mut [u8],
+    reply: &mut [u8],
+) -> Stepped
+    requires { ⌜ InOrder (board .pages) device (now request) (now memory) (now block) (now reply) ⌝ }
+    ensures { λ r. ⌜ left r (now (memory .exit)) (now (block .exit)) (now (reply .exit)) ≡ serveOf (board .pages) device (now (request .entry)) (now (memory .entry)) (now (block .entry)) (now (reply .entry)) ⌝ }
+{
+    let setup = Setup::of(request);
+    let command = Command::of(&request[8..]);
+    let decision = decision::decide(device, setup, command);
+    match decision {
+        Decision::Silent => Stepped {
+            device,
+            answer: Answer::Silent,
+        },
+        Decision::Stall(next) => Stepped {
+            device: next,
+            answer: Answer::Stall,
+        },
+        Decision::Accept(next) => Stepped {
+            device: next,
+            answer: Answer::Accepted,
+        },
+        Decision::Take(next) => {
+            buffer::put(block, 0, &request[8..]);
+            Stepped {
+                device: next,
+                answer: Answer::Accepted,
+            }
+        }
+        Decision::Commands { next, count } => {
+            list_commands(reply, count);
+            Stepped {
+                device: next,
+                answer: Answer::Reply(count),
+            }
+        }
+        Decision::Read => upload(board, device, setup, memory, reply),
+        Decision::State => {
+            let mode = device.mode;
+            buffer::put(reply, 0, &[mode.wire()]);
+            Stepped {
+                device,
+                answer: Answer::Reply(1),
+            }
+        }
+        Decision::Status => get_status(board, device, memory, block, reply),
+    }
+}
+
+// The codes of the first `count` commands.
+fn list_commands(reply: &mut [u8], count: usize)
+    requires { ⌜ (count ≤ 4) × (length (now reply) ≡ transferBytes) ⌝ }
+    ensures { λ _. ⌜ now (reply .exit) ≡ put 0 (take count commandCodes) (now (reply .entry)) ⌝ }
+{
+    let codes = [0x00, 0x21, 0x41, 0x92];
+    buffer::put(reply, 0, &codes[0..count]);
+}
+
+// UPLOAD of memory: the checks, then the bytes.
+fn upload(board: Board, device: Device, setup: Setup, memory: &[u8], reply: &mut [u8]) -> Stepped
+    requires { ⌜ (length (now memory) ≡ memoryBytes (board .pages)) × (length (now reply) ≡ transferBytes) × (setup .length ≤ transferBytes) ⌝ }
+    ensures { λ r. ⌜ ((b : List ℕ) → left r (now (memory .entry)) b (now (reply .exit)) ≡ readOf (board .pages) device setup (now (memory .entry)) b (now (reply .entry))) ⌝ }
+{
+    let protected = board.read_protected(memory);
+    let count = setup.length;
+    let address = action::block_address(setup.value, count, device.pointer);
+    let access = action::examine(board, protected, address, count);
+    match access {
+        Access::Denied(status) => Stepped {
+            device: device.stall(status),
+            answer: Answer::Stall,
+        },
+        Access::InFlash(at) => send(device, memory, at, count, reply),
+        Access::InRam(at) => send(device, memory, at, count, reply),
+        Access::InOptions(at) => send(device, memory, at, count, reply),
+    }
+}
+
+// The bytes of memory from place `at` on are the reply.
+fn send(device: Device, memory: &[u8], at: usize, count: u16, reply: &mut [u8]) -> Stepped
+    requires { ⌜ (at + count ≤ length (now memory)) × (count ≤ length (now reply)) ⌝ }
+    ensures { λ r. ⌜ ((b : List ℕ) → left r (now (memory .entry)) b (now (reply .exit)) ≡ sentOf at count device (now (memory .entry)) b (now (reply .entry))) ⌝ }
+{
+    let end = at + count as usize;
+    buffer::put(reply, 0, &memory[at..end]);
+    Stepped {
+        device: device.enter(Mode::UploadIdle),
+        answer: Answer::Reply(count as usize),
+    }
+}
+
+// GETSTATUS: what is pending runs, then the report.
+fn get_status(
+    board: Board,
+    device: Device,
+    memory: &mut [u8],
+    block: &[u8],
+    reply: &mut [u8],
+) -> Stepped
+    requires { ⌜ (length (now memory) ≡ memoryBytes (board .pages)) × (length (now block) ≡ transferBytes) × (length (now reply) ≡ transferBytes) × (wellFormed (board .pages) device ≡ true) ⌝ }
+    ensures { λ r. ⌜ left r (now (memory .exit)) (now (block .entry)) (now (reply .exit)) ≡ statusOf (board .pages) device (now (memory .entry)) (now (block .entry)) (now (reply .entry)) ⌝ }
+{
+    let ran = run(board, device, memory, block);
+    write_status(device.report(ran), reply);
+    Stepped {
+        device: device.status(ran),
+        answer: Answer::Reply(6),
+    }
+}
+
+// The six bytes of a status report.
+fn write_status(report: Report, reply: &mut [u8])
+    requires { ⌜ length (now reply) ≡ transferBytes ⌝ }
+    ensures { λ _. ⌜ now (reply .exit) ≡ put 0 (statusBytes report) (now (reply .entry)) ⌝ }
+{
+    let status = report.status;
+    let state = report.state;
+    let bytes = [status, poll(state), 0, 0, state, 0];
+    buffer::put(reply, 0, &bytes);
+}
+
+// How long the host is to wait before it asks again.
+fn poll(state: u8) -> u8
+    ensures { λ r. ⌜ r ≡ pollOf state ⌝ }
+{
+    if state == 4 {
+        return 100;
+    }
+    0
+}
+
+// The pending command, if there is one. Otherwise no byte of memory is looked at.
+fn run(board: Board, device: Device, memory: &mut [u8], block: &[u8]) -> Ran
+    requires { ⌜ (length (now memory) ≡ memoryBytes (board .pages)) × (length (now block) ≡ transferBytes) × (wellFormed (board .pages) device ≡ true) ⌝ }
+    ensures { λ r. ⌜ run r (now (memory .exit)) ≡ runOf (board .pages) device (now (block .entry)) (now (memory .entry)) ⌝ }
+{
+    let mode = device.mode;
+    let pointer = device.pointer;
+    if mode.wire() != 3 {
+        return Ran {
+            status: 0,
+            pointer,
+            reboots: false,
+        };
+    }
+    let protected = board.read_protected(memory);
+    let action = action::intend(board, protected, device);
+    let status = perform(board, action, memory, block);
+    action.ran(pointer, status)
+}
+
+// An action on memory; the answer is its status.
+fn perform(board: Board, action: Action, memory: &mut [u8], block: &[u8]) -> u8
+    requires { ⌜ (length (now memory) ≡ memoryBytes (board .pages)) × (endOf action ≤ memoryBytes (board .pages)) × (countOf action ≤ length (now block)) ⌝ }
+    ensures { λ r. ⌜ performed r (now (memory .exit)) ≡ performedOf (board .pages) action (now (block .entry)) (now (memory .entry)) ⌝ }
+{
+    let word = board.protection_word(memory);
+    match action {
+        Action::Rest => 0,
+        Action::Fail(status) => status,
+        Action::Point(_) => 0,
+        Action::Erase(page) => {
+            memory::erase(memory, word, page);
+            0
+        }
+        Action::EraseAll => {
+            memory::erase_all(board, memory, word);
+            0
+        }
+        Action::Unprotect => {
+            memory::unprotect(board, memory);
+            0
+        }
+        Action::ClearRam => {
+            memory::clear_ram(board, memory);
+            0
+        }
+        Action::StoreFlash { at, count } => write(memory, word, at, &block[0..count as usize]),
+        Action::StoreRam { at, count } => {
+            buffer::put(memory, at, &block[0..count as usize]);
+            0
+        }
+        Action::StoreOptions { at, count } => {
+            buffer::put(memory, at, &block[0..count as usize]);
+            0
+        }
+    }
+}
+
+// A write to flash: tested once, stored once.
+fn write(memory: &mut [u8], word: u32, at: usize, source: &[u8]) -> u8
+    requires { ⌜ at + length (now source) ≤ length (now memory) ⌝ }
+    ensures { λ r. ⌜ performed r (now (memory .exit)) ≡ writtenOf word at (now (source .entry)) (now (memory .entry)) ⌝ }
+{
+    if !memory::is_blank(memory, word, at, source.len()) {
+        return Device::WRITE;
+    }
+    memory::store(memory, word, at, source);
+    0
+}
