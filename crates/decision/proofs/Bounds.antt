@@ -67,7 +67,7 @@ served-bounded Abort d s k h = tt
 served-bounded Unknown d s k h = tt
 
 -- an allowed request is a known one, and so a short one
-allowed-short : (d : Device) (s : Setup) → allowedOf (requestOf s) (d .mode) ≡ true → s .length ≤ transferBytes
+pub allowed-short : (d : Device) (s : Setup) → allowedOf (requestOf s) (d .mode) ≡ true → s .length ≤ transferBytes
 unfolding allowedOf
 allowed-short d s e = ⊎-elim (λ u. absurd (false≢true (ap (λ (r : Request). allowedOf r (d .mode)) (sym u) ∙ e))) (λ h. h) (known-short s)
 

@@ -1,3 +1,6 @@
 pub mod Bounds
 pub mod Requests
 pub mod Admitted
+pub mod Outcomes
+pub mod Order
+pub mod Theorems
