@@ -1,4 +1,4 @@
--- The device that a decision carries is well formed. Assumes nothing.
+-- The device that a decision carries is well formed, and memory is read in a calm mode only. Assumes nothing.
 use mathlib.Core.Path.{_≡_, refl, ap, _∙_, sym}
 use mathlib.Core.Bool.{Bool, true, false, cond, _&&_, false≢true}
 use mathlib.Core.Logic.{⊎-elim}
@@ -25,30 +25,30 @@ use Rattle.decision.specs.declared.Decision.the-variants.{Silent, Stall,
 use Rattle.decision.specs.Decide.{decideOf, servedOf, downloadOf, commandedOf, uploadOf, refusedOf, waitingIf, erasingOf, silentOf}
 use Rattle.decision.proofs.Bounds.{allowed-short}
 
-abbrev pub Formed : ℕ → Decision → Type 0
-Formed n Silent = T true
-Formed n (Stall next) = Form n next
-Formed n (Accept next) = Form n next
-Formed n (Take next) = Form n next
-Formed n (Commands next count) = Form n next
-Formed n Read = T true
-Formed n State = T true
-Formed n Status = T true
+abbrev pub Formed : ℕ → Device → Decision → Type 0
+Formed n d Silent = T true
+Formed n d (Stall next) = Form n next
+Formed n d (Accept next) = Form n next
+Formed n d (Take next) = Form n next
+Formed n d (Commands next count) = Form n next
+Formed n d Read = Calm (d .mode)
+Formed n d State = T true
+Formed n d Status = T true
 
 module _ (n : ℕ) (d : Device) (f : Form n d) where
-  refused-formed : Formed n (refusedOf d)
+  refused-formed : Formed n d (refusedOf d)
   refused-formed = stalled-form n d f errSTALLEDPKT refl
 
-  waiting-if-formed : (fits : Bool) (pending : Pending) → Calm (d .mode) → pendingFits DownloadSync pending ≡ true → Formed n (waitingIf fits d pending)
+  waiting-if-formed : (fits : Bool) (pending : Pending) → Calm (d .mode) → pendingFits DownloadSync pending ≡ true → Formed n d (waitingIf fits d pending)
   waiting-if-formed true pending c p = waiting-form n d f pending c p
   waiting-if-formed false pending c p = refused-formed
 
-  erasing-formed : (count address : ℕ) → Calm (d .mode) → Formed n (erasingOf d count address)
+  erasing-formed : (count address : ℕ) → Calm (d .mode) → Formed n d (erasingOf d count address)
   erasing-formed count address c =
       by-bool (eqb count 5) (λ e. rw e (waiting-form n d f (ErasePage address) c refl))
       (λ e. rw e (waiting-if-formed (eqb count 1) MassErase c refl))
 
-  commanded-formed : (count : ℕ) (k : Command) → Calm (d .mode) → Formed n (commandedOf d count k)
+  commanded-formed : (count : ℕ) (k : Command) → Calm (d .mode) → Formed n d (commandedOf d count k)
   unfolding commandedOf
   commanded-formed count k c =
       by-bool (eqb (k .code) 0x21) (λ x. rw x (waiting-if-formed (eqb count 5) (SetPointer (k .address)) c refl))
@@ -58,7 +58,7 @@ module _ (n : ℕ) (d : Device) (f : Form n d) where
       by-bool (eqb (k .code) 0x92) (λ z. rw (x, y, z) (waiting-if-formed (eqb count 1) ReadUnprotect c refl))
       (λ z. rw (x, y, z) refused-formed)))
 
-  download-formed : (s : Setup) (k : Command) → Calm (d .mode) → s .length ≤ transferBytes → Formed n (downloadOf d s k)
+  download-formed : (s : Setup) (k : Command) → Calm (d .mode) → s .length ≤ transferBytes → Formed n d (downloadOf d s k)
   unfolding downloadOf
   download-formed s k c h =
       by-bool (eqb (s .length) 0) (λ x. rw x (entered-form n d f ManifestSync c (record { sync = refl; error = refl })))
@@ -81,13 +81,13 @@ module _ (n : ℕ) (d : Device) (f : Form n d) where
       two : (k : ℕ) → (k ≡ 0 → ⊥) → (k ≡ 1 → ⊥) → 2 ≤ k
       two k a b = omega arith
 
-  upload-formed : (s : Setup) → Calm (d .mode) → Formed n (uploadOf d s)
+  upload-formed : (s : Setup) → Calm (d .mode) → Formed n d (uploadOf d s)
   unfolding uploadOf
   upload-formed s c =
       by-bool (eqb (s .value) 0) (λ x. rw x (entered-form n d f Idle c (record { sync = refl; error = refl })))
-      (λ x. by-bool (eqb (s .value) 1) (λ y. rw (x, y) refused-formed) (λ y. rw (x, y) tt))
+      (λ x. by-bool (eqb (s .value) 1) (λ y. rw (x, y) refused-formed) (λ y. rw (x, y) c))
 
-  served-formed : (r : Request) (s : Setup) (k : Command) → allowedOf r (d .mode) ≡ true → s .length ≤ transferBytes → Formed n (servedOf r d s k)
+  served-formed : (r : Request) (s : Setup) (k : Command) → allowedOf r (d .mode) ≡ true → s .length ≤ transferBytes → Formed n d (servedOf r d s k)
   served-formed Download s k a h = download-formed s k (download-calm (d .mode) a) h
   served-formed Upload s k a h = upload-formed s (upload-calm (d .mode) a)
   served-formed GetStatus s k a h = tt
@@ -96,7 +96,7 @@ module _ (n : ℕ) (d : Device) (f : Form n d) where
   served-formed Abort s k a h = idled-form n d f
   served-formed Unknown s k a h = refused-formed
 
-  pub decide-formed : (s : Setup) (k : Command) → Formed n (decideOf d s k)
+  pub decide-formed : (s : Setup) (k : Command) → Formed n d (decideOf d s k)
   unfolding decideOf
   decide-formed s k =
       by-bool (silentOf (d .mode)) (λ x. rw x tt)

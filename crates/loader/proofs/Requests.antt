@@ -5,7 +5,6 @@ use mathlib.Core.List.{List}
 use Prim.Native.Nat.{ℕ, _+_, _-_, _≤_}
 use native.Mathlib.Omega.{arith}
 use lib.ListN.{length, take, drop}
-use borrow.Author.Tests.{ne-eqb}
 use Rattle.laws.specs.Bytes.{put}
 use Rattle.laws.proofs.Bytes.{rest-is, take-at-most}
 use Rattle.board.specs.Protection.{readProtected}
@@ -16,7 +15,7 @@ use Rattle.request.proofs.Lengths.{fits-data, data-at-most}
 use Rattle.device.specs.declared.Device.{Device}
 use Rattle.device.specs.declared.Ran.{Ran}
 use Rattle.device.specs.declared.Report.{Report}
-use Rattle.device.specs.Wire.{wireOf}
+use Rattle.device.specs.Wire.{isMode}
 use Rattle.device.specs.State.{afterStatus, reportOf}
 use Rattle.decision.specs.declared.Command.{Command}
 use Rattle.decision.specs.declared.Decision.{Decision}
@@ -34,12 +33,12 @@ use Rattle.loader.specs.Perform.{Performed, performed, performedOf}
 use Rattle.loader.specs.Serve.{Run, run, runOf, performs, statusBytes, reported, statusOf, readAt, readOf, actedOf, serveOf}
 
 -- nothing runs outside mode 3
-pub run-rests : (n : ℕ) (d : Device) (b m : List ℕ) → (wireOf (d .mode) ≡ 3 → ⊥) → run (record { status = 0; pointer = d .pointer; reboots = false }) m ≡ runOf n d b m
+pub run-rests : (n : ℕ) (d : Device) (b m : List ℕ) → isMode 3 (d .mode) ≡ false → run (record { status = 0; pointer = d .pointer; reboots = false }) m ≡ runOf n d b m
 unfolding runOf
-run-rests n d b m h = rw (ne-eqb (wireOf (d .mode)) 3 h)
+run-rests n d b m h = rw h
 
 -- in mode 3 the action of the pending command does
-pub run-performs : (n : ℕ) (d : Device) (b m m′ : List ℕ) (protected : Bool) (action : Action) (status : ℕ) (ran : Ran) → wireOf (d .mode) ≡ 3 → protected ≡ readProtected n m → action ≡ actionOf n protected d → performed status m′ ≡ performedOf n action b m → ran ≡ ranOf action (d .pointer) status → run ran m′ ≡ runOf n d b m
+pub run-performs : (n : ℕ) (d : Device) (b m m′ : List ℕ) (protected : Bool) (action : Action) (status : ℕ) (ran : Ran) → isMode 3 (d .mode) ≡ true → protected ≡ readProtected n m → action ≡ actionOf n protected d → performed status m′ ≡ performedOf n action b m → ran ≡ ranOf action (d .pointer) status → run ran m′ ≡ runOf n d b m
 unfolding runOf
 run-performs n d b m m′ protected action status ran w p a f r =
     rw (w, ← p, ← a, r) (ap (λ (x : Performed). run (ranOf action (d .pointer) (x .status)) (x .memory)) f)

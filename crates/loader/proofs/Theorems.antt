@@ -1,2 +1,49 @@
--- What the customer's first two demands say of a step, each in a line. Assumes nothing.
-use mathlib.Core.Path.{_≡_}
+-- What demands 1 and 2 say of a step, for a reader who takes `stepOf` from specs/ as what document 01 says. Assumes nothing.
+use mathlib.Core.Path.{_≡_, _∙_, sym, ap}
+use mathlib.Core.Bool.{true, false}
+use mathlib.Core.List.{List}
+use Prim.Native.Nat.{ℕ, _≤_, _<_}
+use Rattle.board.specs.Layout.{loggerPages}
+use Rattle.refusal.specs.declared.Refusal.{Refusal}
+use Rattle.refusal.specs.Refusal.{numberOf}
+use Rattle.device.specs.declared.Device.{Device}
+use Rattle.device.specs.WellFormed.{wellFormed}
+use Rattle.device.proofs.Form.{form-of, well-formed}
+use Rattle.loader.specs.declared.Event.{Event}
+use Rattle.loader.specs.declared.Stepped.{Stepped}
+use Rattle.loader.specs.declared.Answer.the-variants as answer
+use Rattle.loader.specs.declared.Admission.the-variants as admission
+use Rattle.loader.specs.Answer.{Outcome, outcome, left}
+use Rattle.loader.specs.Faults.{faultOf}
+use Rattle.loader.specs.Step.{sizesOf, admittedOf, steps, stepOf}
+use Rattle.loader.proofs.Outcomes.{left-stepped, left-memory, left-block, left-reply}
+use Rattle.loader.proofs.Order.{First, Refuses, admitted-refuses}
+use Rattle.loader.proofs.Form.{step-form}
+
+-- what the promise of `step` allows, for one call
+abbrev pub Allowed : Device → Event → List ℕ → List ℕ → List ℕ → List ℕ → Stepped → List ℕ → List ℕ → List ℕ → Type 0
+Allowed d e q m b y r m′ b′ y′ = left r m′ b′ y′ ≡ stepOf loggerPages d e q m b y
+
+-- two outcomes that the promise allows are equal: answer, device and all three buffers
+pub one-outcome : (d : Device) (e : Event) (q m b y : List ℕ) (r₁ r₂ : Stepped) (m₁ b₁ y₁ m₂ b₂ y₂ : List ℕ) → Allowed d e q m b y r₁ m₁ b₁ y₁ → Allowed d e q m b y r₂ m₂ b₂ y₂ → (r₁ ≡ r₂) × (m₁ ≡ m₂) × (b₁ ≡ b₂) × (y₁ ≡ y₂)
+one-outcome d e q m b y r₁ r₂ m₁ b₁ y₁ m₂ b₂ y₂ p₁ p₂ =
+    let same = p₁ ∙ sym p₂ in
+    (left-stepped r₁ r₂ m₁ b₁ y₁ m₂ b₂ y₂ same, left-memory r₁ r₂ m₁ b₁ y₁ m₂ b₂ y₂ same, left-block r₁ r₂ m₁ b₁ y₁ m₂ b₂ y₂ same, left-reply r₁ r₂ m₁ b₁ y₁ m₂ b₂ y₂ same)
+
+module _ (n : ℕ) (d : Device) (e : Event) (q m b y : List ℕ) where
+  -- a refusal leaves the device and every buffer as they were
+  pub refused-changes-nothing : (r : Refusal) → admittedOf n d e q (sizesOf m b y) ≡ admission.Refused r → stepOf n d e q m b y ≡ outcome (answer.Refused r) d m b y
+  unfolding stepOf
+  refused-changes-nothing r a = rw a
+
+  -- a refusal is the first row that applies
+  pub refused-first : (r : Refusal) → admittedOf n d e q (sizesOf m b y) ≡ admission.Refused r → First (faultOf n d e q (sizesOf m b y)) (numberOf r)
+  refused-first r a = rw a at (admitted-refuses n d q (sizesOf m b y) e)
+
+  -- where no refusal is given, no row applies
+  pub admitted-faultless : admittedOf n d e q (sizesOf m b y) ≡ admission.Admitted → (k : ℕ) → k < 6 → faultOf n d e q (sizesOf m b y) k ≡ false
+  admitted-faultless a = rw a at (admitted-refuses n d q (sizesOf m b y) e)
+
+  -- a well-formed state stays well formed, so that no run of events ends in refusal 4
+  pub step-keeps-form : 1 ≤ n → wellFormed n d ≡ true → wellFormed n (stepOf n d e q m b y .device) ≡ true
+  step-keeps-form h w = well-formed n (stepOf n d e q m b y .device) (step-form n d e q m b y h (form-of n d w))

@@ -8,6 +8,7 @@ ghost use lib.ListN.{length, take};
 ghost use Rattle.laws.specs.Bytes.{put};
 ghost use Rattle.board.specs.Layout.{loggerPages, memoryBytes};
 ghost use Rattle.request.specs.Request.{transferBytes};
+ghost use Rattle.device.specs.Wire.{isMode};
 ghost use Rattle.device.specs.WellFormed.{wellFormed};
 ghost use Rattle.loader.specs.Answer.{left};
 ghost use Rattle.loader.specs.Perform.{performed, performedOf, writtenOf, endOf, countOf};
@@ -78,18 +79,18 @@ pub fn step(
     };
     let admission = admit(board, device, event, request, sizes);
     match admission {
-        Admission::Refused(refusal) => Stepped {
-            device,
-            answer: Answer::Refused(refusal),
-        },
+        Admission::Refused(refusal) => answered(device, Answer::Refused(refusal)),
         Admission::Admitted => match event {
-            Event::Attach => Stepped {
-                device: device.attach(),
-                answer: Answer::Accepted,
-            },
+            Event::Attach => answered(device.attach(), Answer::Accepted),
             Event::Request => serve(board, device, request, memory, block, reply),
         },
     }
+}
+
+fn answered(device: Device, answer: Answer) -> Stepped
+    ensures { λ r. ⌜ r ≡ record { device = device; answer = answer } ⌝ }
+{
+    Stepped { device, answer }
 }
 
 // The refusals of a step, in their order.
@@ -139,40 +140,22 @@ fn serve(
     let command = Command::of(&request[8..]);
     let decision = decision::decide(device, setup, command);
     match decision {
-        Decision::Silent => Stepped {
-            device,
-            answer: Answer::Silent,
-        },
-        Decision::Stall(next) => Stepped {
-            device: next,
-            answer: Answer::Stall,
-        },
-        Decision::Accept(next) => Stepped {
-            device: next,
-            answer: Answer::Accepted,
-        },
+        Decision::Silent => answered(device, Answer::Silent),
+        Decision::Stall(next) => answered(next, Answer::Stall),
+        Decision::Accept(next) => answered(next, Answer::Accepted),
         Decision::Take(next) => {
             buffer::put(block, 0, &request[8..]);
-            Stepped {
-                device: next,
-                answer: Answer::Accepted,
-            }
+            answered(next, Answer::Accepted)
         }
         Decision::Commands { next, count } => {
             list_commands(reply, count);
-            Stepped {
-                device: next,
-                answer: Answer::Reply(count),
-            }
+            answered(next, Answer::Reply(count))
         }
         Decision::Read => upload(board, device, setup, memory, reply),
         Decision::State => {
             let mode = device.mode;
             buffer::put(reply, 0, &[mode.wire()]);
-            Stepped {
-                device,
-                answer: Answer::Reply(1),
-            }
+            answered(device, Answer::Reply(1))
         }
         Decision::Status => get_status(board, device, memory, block, reply),
     }
@@ -197,10 +180,7 @@ fn upload(board: Board, device: Device, setup: Setup, memory: &[u8], reply: &mut
     let address = action::block_address(setup.value, count, device.pointer);
     let access = action::examine(board, protected, address, count);
     match access {
-        Access::Denied(status) => Stepped {
-            device: device.stall(status),
-            answer: Answer::Stall,
-        },
+        Access::Denied(status) => answered(device.stall(status), Answer::Stall),
         Access::InFlash(at) => send(device, memory, at, count, reply),
         Access::InRam(at) => send(device, memory, at, count, reply),
         Access::InOptions(at) => send(device, memory, at, count, reply),
@@ -214,10 +194,10 @@ fn send(device: Device, memory: &[u8], at: usize, count: u16, reply: &mut [u8]) 
 {
     let end = at + count as usize;
     buffer::put(reply, 0, &memory[at..end]);
-    Stepped {
-        device: device.enter(Mode::UploadIdle),
-        answer: Answer::Reply(count as usize),
-    }
+    answered(
+        device.enter(Mode::UploadIdle),
+        Answer::Reply(count as usize),
+    )
 }
 
 // GETSTATUS: what is pending runs, then the report.
@@ -233,10 +213,7 @@ fn get_status(
 {
     let ran = run(board, device, memory, block);
     write_status(device.report(ran), reply);
-    Stepped {
-        device: device.status(ran),
-        answer: Answer::Reply(6),
-    }
+    answered(device.status(ran), Answer::Reply(6))
 }
 
 // The six bytes of a status report.
@@ -265,9 +242,8 @@ fn run(board: Board, device: Device, memory: &mut [u8], block: &[u8]) -> Ran
     requires { ⌜ (length (now memory) ≡ memoryBytes (board .pages)) × (length (now block) ≡ transferBytes) × (wellFormed (board .pages) device ≡ true) ⌝ }
     ensures { λ r. ⌜ run r (now (memory .exit)) ≡ runOf (board .pages) device (now (block .entry)) (now (memory .entry)) ⌝ }
 {
-    let mode = device.mode;
     let pointer = device.pointer;
-    if mode.wire() != 3 {
+    if !waits(device) {
         return Ran {
             status: 0,
             pointer,
@@ -278,6 +254,14 @@ fn run(board: Board, device: Device, memory: &mut [u8], block: &[u8]) -> Ran
     let action = action::intend(board, protected, device);
     let status = perform(board, action, memory, block);
     action.ran(pointer, status)
+}
+
+// Does a command wait for this GETSTATUS?
+fn waits(device: Device) -> bool
+    ensures { λ r. ⌜ r ≡ isMode 3 (device .mode) ⌝ }
+{
+    let mode = device.mode;
+    mode.wire() == 3
 }
 
 // An action on memory; the answer is its status.

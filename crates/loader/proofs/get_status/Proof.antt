@@ -16,6 +16,9 @@ write-status-requires c κs = search needs
 status-requires : tie.Need-status-requires
 status-requires c κs = search needs
 
+answered-requires : tie.Need-answered-requires
+answered-requires c κs = search needs
+
 same-length : tie.Need-same-length
 same-length c = search needs
 
@@ -24,9 +27,9 @@ same-length-2 c = search needs
 
 returns : tie.Need-returns
 returns c =
-    let w = c .before .before .before in
+    let w = c .before .before .before .before in
     let r = w .before .before in
-    status-is _ _ _ _ _ _ _ _ _ _ (r .before .before .before .run .ensures) (r .report .ensures) (w .write-status .ensures) (c .status .ensures)
+    rw (c .answered .ensures) (status-is _ _ _ _ _ _ _ _ _ _ (r .before .before .before .run .ensures) (r .report .ensures) (w .write-status .ensures) (c .before .status .ensures))
 
 pub get-status-spec : {M : Type 1} → statement M
 get-status-spec =
@@ -36,6 +39,7 @@ get-status-spec =
     report-requires
     write-status-requires
     status-requires
+    answered-requires
     same-length
     same-length-2
     returns)

@@ -1,19 +1,18 @@
 -- `loader::run` meets its contract. Assumes nothing.
-use native.Mathlib.Omega.{arith}
 use Rattle.loader.proofs.Requests.{run-rests, run-performs}
 use Rattle.loader.proofs.Bounds.{action-fits}
+use borrow.Author.Tests.{not-true, not-false}
+use native.Mathlib.Omega.{arith}
 use mathlib.Core.Path.{_∙_, sym}
 use borrow.Author.Needs.{needs}
 use Rattle.loader.proofs.run.Statement.{statement}
 use Rattle.loader.proofs.run.Tie as tie
 
-wire-requires : tie.Need-wire-requires
-wire-requires c κs = search needs
+waits-requires : tie.Need-waits-requires
+waits-requires c κs = search needs
 
 returns : tie.Need-returns
-returns c =
-    let is = c .before .wire .ensures in
-    run-rests _ _ _ _ (λ e. c .if1 .taken (is ∙ e))
+returns c = run-rests _ _ _ _ (sym (c .before .waits .ensures) ∙ not-true _ (c .if1 .taken))
 
 read-protected-requires : tie.Need-read-protected-requires
 read-protected-requires c κs = search needs
@@ -38,13 +37,13 @@ returns-2 c =
     let p = c .before .before .before in
     let a = p .before .before in
     let w = a .before .before .before in
-    run-performs _ _ _ _ _ _ _ _ _ (sym (w .before .wire .ensures) ∙ w .if1 .left) (a .before .read-protected .ensures) (a .intend .ensures) (p .perform .ensures) (c .ran .ensures)
+    run-performs _ _ _ _ _ _ _ _ _ (sym (w .before .waits .ensures) ∙ not-false _ (w .if1 .left)) (a .before .read-protected .ensures) (a .intend .ensures) (p .perform .ensures) (c .ran .ensures)
 
 pub run-spec : {M : Type 1} → statement M
 run-spec =
     tie.close
     (tie.spec
-    wire-requires
+    waits-requires
     returns
     read-protected-requires
     intend-requires

@@ -24,15 +24,18 @@ put-requires c κs = search needs
 enter-requires : tie.Need-enter-requires
 enter-requires c κs = search needs
 
+answered-requires : tie.Need-answered-requires
+answered-requires c κs = search needs
+
 same-length : tie.Need-same-length
 same-length c = search needs
 
 returns : tie.Need-returns
 returns c b =
-    let p = c .before .before .before in
+    let p = c .before .before .before .before in
     let a = p .before .before .before .before .before .args in
     let span : a .at + a .count - a .at ≡ a .count = omega arith in
-    simp (c .enter .ensures, p .put .ensures, span)
+    simp (c .answered .ensures, c .before .enter .ensures, p .put .ensures, span)
 
 pub send-spec : {M : Type 1} → statement M
 send-spec =
@@ -44,5 +47,6 @@ send-spec =
     part-put-end
     put-requires
     enter-requires
+    answered-requires
     same-length
     returns)

@@ -11,6 +11,9 @@ admit-requires c κs = search needs
 enum-known-admission : tie.Need-enum-known-admission
 enum-known-admission c = search needs
 
+answered-requires : tie.Need-answered-requires
+answered-requires c κs = search needs
+
 enum-told : tie.Need-enum-told
 enum-told c = search needs
 
@@ -19,6 +22,9 @@ enum-told-2 c = search needs
 
 attach-requires : tie.Need-attach-requires
 attach-requires c κs = search needs
+
+answered-requires-2 : tie.Need-answered-requires-2
+answered-requires-2 c κs = search needs
 
 enum-told-3 : tie.Need-enum-told-3
 enum-told-3 c = search needs
@@ -33,13 +39,14 @@ serve-requires c κs =
 
 returns : tie.Need-returns
 returns c =
-    let i = c .before .before .before in
-    step-is _ _ _ _ _ _ _ _ (i .admit .ensures) _ (c .before .admission .given .1)
+    let a = c .before .before in
+    rw (c .answered .ensures) (step-is _ _ _ _ _ _ _ _ (a .before .before .admit .ensures) _ (a .admission .given .1))
 
 returns-2 : tie.Need-returns-2
 returns-2 c =
-    let a = c .before .before .before in
-    rw (c .attach .ensures) (step-attaches _ _ _ _ _ _ _ _ (a .before .before .admit .ensures) (a .enum-told .given .1) (c .before .enum-told2 .given .1))
+    let e = c .before .before in
+    let a = e .before .before in
+    rw (c .answered2 .ensures, c .before .attach .ensures) (step-attaches _ _ _ _ _ _ _ _ (a .before .before .admit .ensures) (a .enum-told .given .1) (e .enum-told2 .given .1))
 
 same-length : tie.Need-same-length
 same-length c = search needs
@@ -63,9 +70,11 @@ step-spec =
     (tie.spec
     admit-requires
     enum-known-admission
+    answered-requires
     enum-told
     enum-told-2
     attach-requires
+    answered-requires-2
     enum-told-3
     serve-requires
     returns

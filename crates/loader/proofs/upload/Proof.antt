@@ -1,6 +1,6 @@
 -- `loader::upload` meets its contract. Assumes nothing.
-use native.Mathlib.Omega.{arith}
 use Rattle.loader.proofs.Requests.{read-is, read-granted}
+use native.Mathlib.Omega.{arith}
 use mathlib.Core.Path.{_∙_}
 use borrow.Author.Needs.{needs}
 use Rattle.loader.proofs.upload.Statement.{statement}
@@ -20,6 +20,9 @@ enum-known-access c = search needs
 
 stall-requires : tie.Need-stall-requires
 stall-requires c κs = search needs
+
+answered-requires : tie.Need-answered-requires
+answered-requires c κs = search needs
 
 enum-known-access-2 : tie.Need-enum-known-access-2
 enum-known-access-2 c = search needs
@@ -50,8 +53,9 @@ send-requires-3 c κs =
 
 returns : tie.Need-returns
 returns c b =
-    let e = c .before .before .before .before in
-    simp (c .stall .ensures) (read-is _ _ _ _ b _ _ _ _ _ (e .before .before .read-protected .ensures) (e .before .block-address .ensures) (e .examine .ensures) (c .before .before .access .given .1))
+    let a = c .before .before .before in
+    let e = a .before .before in
+    rw (c .answered .ensures, c .before .stall .ensures) (read-is _ _ _ _ b _ _ _ _ _ (e .before .before .read-protected .ensures) (e .before .block-address .ensures) (e .examine .ensures) (a .access .given .1))
 
 same-length : tie.Need-same-length
 same-length c = search needs
@@ -89,6 +93,7 @@ upload-spec =
     examine-requires
     enum-known-access
     stall-requires
+    answered-requires
     enum-known-access-2
     send-requires
     enum-known-access-3

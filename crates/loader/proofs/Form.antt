@@ -1,0 +1,174 @@
+-- A step from a well-formed state leads to one. Assumes nothing.
+use mathlib.Core.Path.{_≡_, refl, ap, _∙_, sym}
+use mathlib.Core.Bool.{Bool, true, false, cond, _&&_, false≢true, true≢false}
+use mathlib.Core.List.{List}
+use Prim.Native.Nat.{ℕ, suc, _+_, _-_, _*_, _≤_, _<_}
+use native.Mathlib.Omega.{arith}
+use lib.Dec.{T, eqb, ltb}
+use lib.ListN.{length, take, drop}
+use borrow.Author.Tests.{le-leb}
+use Rattle.laws.proofs.Split.{by-bool}
+use Rattle.board.specs.declared.Place.{Place}
+use Rattle.board.specs.declared.Place.the-variants.{Flash, Ram, Options, Outside}
+use Rattle.board.specs.Layout.{flashFirst, flashBytes, optionsFrom, optionBytes}
+use Rattle.board.specs.Protection.{readProtected, wordOf}
+use Rattle.board.specs.Span.{spans, placeOf}
+use Rattle.request.specs.Setup.{setupOf}
+use Rattle.device.specs.declared.Mode.{Mode}
+use Rattle.device.specs.declared.Mode.the-variants.{UploadIdle, Error}
+use Rattle.device.specs.declared.Pending.{Pending}
+use Rattle.device.specs.declared.Pending.the-variants.{Nothing, SetPointer, ErasePage, MassErase, ReadUnprotect, Write}
+use Rattle.device.specs.declared.Device.{Device}
+use Rattle.device.specs.declared.Ran.{Ran}
+use Rattle.device.specs.Wire.{isMode}
+use Rattle.device.specs.State.{started, stalled, entered}
+use Rattle.device.specs.WellFormed.{inRegion, statusFits, wellFormed}
+use Rattle.device.proofs.Form.{Form, Sane, Calm, form-of, well-formed, stalled-form, entered-form, after-status-form, upload-calm}
+use Rattle.decision.specs.declared.Decision.{Decision}
+use Rattle.decision.specs.declared.Decision.the-variants as decided
+use Rattle.decision.specs.Decide.{commandOf, decideOf}
+use Rattle.decision.proofs.Form.{Formed, decide-formed}
+use Rattle.action.specs.declared.Access.{Access}
+use Rattle.action.specs.declared.Access.the-variants.{Denied, InFlash, InRam, InOptions}
+use Rattle.action.specs.declared.Action.{Action}
+use Rattle.action.specs.declared.Action.the-variants.{Rest, Fail, Point, Erase, EraseAll, Unprotect, ClearRam, StoreFlash, StoreRam, StoreOptions}
+use Rattle.action.specs.Access.{checkedOf, accessOf, blockAddress}
+use Rattle.action.specs.Action.{pointOf, eraseAt, eraseOf, storeAt, actionIn, actionOf, movedOf, rebootsOf, ranOf}
+use Rattle.memory.specs.Flash.{blank}
+use Rattle.loader.specs.declared.Event.{Event}
+use Rattle.loader.specs.declared.Event.the-variants as event
+use Rattle.loader.specs.declared.Admission.{Admission}
+use Rattle.loader.specs.declared.Admission.the-variants as admission
+use Rattle.loader.specs.Answer.{Outcome}
+use Rattle.loader.specs.Perform.{performedOf, writtenOf}
+use Rattle.loader.specs.Serve.{Run, runOf, statusOf, readAt, readOf, actedOf, serveOf}
+use Rattle.loader.specs.Step.{sizesOf, admittedOf, happens, steps, stepOf}
+
+-- an action whose own status is one of the error mode's, and whose pointer lies in a region
+abbrev Proper : ℕ → Action → Type 0
+Proper n Rest = T true
+Proper n (Fail status) = statusFits Error status ≡ true
+Proper n (Point address) = inRegion n address ≡ true
+Proper n (Erase page) = T true
+Proper n EraseAll = T true
+Proper n Unprotect = T true
+Proper n ClearRam = T true
+Proper n (StoreFlash at count) = T true
+Proper n (StoreRam at count) = T true
+Proper n (StoreOptions at count) = T true
+
+abbrev Refusing : Access → Type 0
+Refusing (Denied status) = statusFits Error status ≡ true
+Refusing (InFlash at) = T true
+Refusing (InRam at) = T true
+Refusing (InOptions at) = T true
+
+checked-refusing : (n count : ℕ) (place : Place) → Refusing (checkedOf n count place)
+checked-refusing n count (Flash at) = by-bool (ltb count 2) (λ e. rw e refl) (λ e. rw e tt)
+checked-refusing n count (Ram at) = by-bool (ltb count 2) (λ e. rw e refl) (λ e. rw e tt)
+checked-refusing n count (Options at) = by-bool (eqb at (optionsFrom n) && eqb count optionBytes) (λ e. rw e tt) (λ e. rw e refl)
+checked-refusing n count Outside = refl
+
+access-refusing : (n : ℕ) (protected : Bool) (address count : ℕ) → Refusing (accessOf n protected address count)
+unfolding accessOf
+access-refusing n true address count = refl
+access-refusing n false address count = checked-refusing n count (placeOf n address count)
+
+store-proper : (n count : ℕ) (access : Access) → Refusing access → Proper n (storeAt access count)
+store-proper n count (Denied status) r = r
+store-proper n count (InFlash at) r = tt
+store-proper n count (InRam at) r = tt
+store-proper n count (InOptions at) r = tt
+
+point-proper : (n address : ℕ) → Proper n (pointOf n address)
+point-proper n address = by-bool (inRegion n address) (λ e. rw e e) (λ e. rw e refl)
+
+erase-at-proper : (n : ℕ) (place : Place) → Proper n (eraseAt place)
+erase-at-proper n (Flash at) = tt
+erase-at-proper n (Ram at) = refl
+erase-at-proper n (Options at) = refl
+erase-at-proper n Outside = refl
+
+action-proper : (n : ℕ) (protected : Bool) (pointer : ℕ) (pending : Pending) → Proper n (actionIn pending n protected pointer)
+action-proper n protected pointer Nothing = tt
+action-proper n protected pointer (SetPointer address) = point-proper n address
+action-proper n true pointer (ErasePage address) = refl
+action-proper n false pointer (ErasePage address) = erase-at-proper n (placeOf n address 1)
+action-proper n true pointer MassErase = refl
+action-proper n false pointer MassErase = tt
+action-proper n true pointer ReadUnprotect = tt
+action-proper n false pointer ReadUnprotect = tt
+action-proper n protected pointer (Write block count) =
+    let a = blockAddress block count pointer in
+    store-proper n count (accessOf n protected a count) (access-refusing n protected a count)
+
+-- what running an action comes to
+module _ (n pointer : ℕ) (b m : List ℕ) (p : inRegion n pointer ≡ true) where
+  went-well : (action : Action) → inRegion n (movedOf action pointer) ≡ true → Sane n (ranOf action pointer 0)
+  went-well action h = record { well = λ e. h; ill = λ e. absurd (true≢false e) }
+
+  performed-sane : (action : Action) → Proper n action → Sane n (ranOf action pointer (performedOf n action b m .status))
+  performed-sane Rest h = went-well Rest p
+  performed-sane (Fail status) h = record { well = λ e. p; ill = λ e. h }
+  performed-sane (Point address) h = went-well (Point address) h
+  performed-sane (Erase page) h = went-well (Erase page) p
+  performed-sane EraseAll h = went-well EraseAll p
+  performed-sane Unprotect h = went-well Unprotect p
+  performed-sane ClearRam h = went-well ClearRam p
+  performed-sane (StoreFlash at count) h =
+      by-bool (blank (wordOf n m) at (length (take count b)) m) (λ e. rw e (went-well (StoreFlash at count) p))
+      (λ e. rw e (record { well = λ z. p; ill = λ z. refl }))
+  performed-sane (StoreRam at count) h = went-well (StoreRam at count) p
+  performed-sane (StoreOptions at count) h = went-well (StoreOptions at count) p
+
+module _ (n : ℕ) (d : Device) (m b y : List ℕ) (f : Form n d) where
+  pub run-sane : Sane n (runOf n d b m .ran)
+  unfolding runOf actionOf
+  run-sane =
+      by-bool (isMode 3 (d .mode))
+      (λ e. rw e (performed-sane n (d .pointer) b m (f .pointer) (actionIn (d .pending) n (readProtected n m) (d .pointer)) (action-proper n (readProtected n m) (d .pointer) (d .pending))))
+      (λ e. rw e (record { well = λ z. f .pointer; ill = λ z. absurd (true≢false z) }))
+
+  status-form : Form n (statusOf n d m b y .device)
+  unfolding statusOf
+  status-form = after-status-form n d (runOf n d b m .ran) f run-sane
+
+  read-at-form : (access : Access) (count : ℕ) → Refusing access → Calm (d .mode) → Form n (readAt access count d m b y .device)
+  read-at-form (Denied status) count r c = stalled-form n d f status r
+  read-at-form (InFlash at) count r c = entered-form n d f UploadIdle c (record { sync = refl; error = refl })
+  read-at-form (InRam at) count r c = entered-form n d f UploadIdle c (record { sync = refl; error = refl })
+  read-at-form (InOptions at) count r c = entered-form n d f UploadIdle c (record { sync = refl; error = refl })
+
+  acted-form : (decision : Decision) (q : List ℕ) → Formed n d decision → Form n (actedOf decision n d q m b y .device)
+  unfolding readOf
+  acted-form decided.Silent q h = f
+  acted-form (decided.Stall next) q h = h
+  acted-form (decided.Accept next) q h = h
+  acted-form (decided.Take next) q h = h
+  acted-form (decided.Commands next count) q h = h
+  acted-form decided.Read q h =
+      let s = setupOf q in
+      let a = blockAddress (s .value) (s .length) (d .pointer) in
+      read-at-form (accessOf n (readProtected n m) a (s .length)) (s .length) (access-refusing n (readProtected n m) a (s .length)) h
+  acted-form decided.State q h = f
+  acted-form decided.Status q h = status-form
+
+  pub serve-form : (q : List ℕ) → Form n (serveOf n d q m b y .device)
+  unfolding serveOf
+  serve-form q = acted-form (decideOf d (setupOf q) (commandOf (drop 8 q))) q (decide-formed n d f (setupOf q) (commandOf (drop 8 q)))
+
+-- the first flash address lies in a region, where there is a page
+pub started-form : (n : ℕ) → 1 ≤ n → Form n started
+unfolding inRegion placeOf spans
+started-form n h =
+    let room : 1 ≤ flashBytes n = omega arith in
+    record { pointer = rw (le-leb 1 (flashBytes n) room); pending = refl; status = refl }
+
+pub step-form : (n : ℕ) (d : Device) (e : Event) (q m b y : List ℕ) → 1 ≤ n → Form n d → Form n (stepOf n d e q m b y .device)
+unfolding stepOf
+step-form n d e q m b y h f = go (admittedOf n d e q (sizesOf m b y)) e
+  where
+    go : (a : Admission) (e : Event) → Form n (steps a e n d q m b y .device)
+    go admission.Admitted event.Attach = started-form n h
+    go admission.Admitted event.Request = serve-form n d m b y f q
+    go (admission.Refused r) e = f

@@ -1,0 +1,13 @@
+-- `loader::waits` meets its contract. Assumes nothing.
+use borrow.Author.Needs.{needs}
+use Rattle.loader.proofs.waits.Statement.{statement}
+use Rattle.loader.proofs.waits.Tie as tie
+
+wire-requires : tie.Need-wire-requires
+wire-requires c κs = search needs
+
+returns : tie.Need-returns
+returns c = simp (c .wire .ensures)
+
+pub waits-spec : {M : Type 1} → statement M
+waits-spec = tie.close (tie.spec wire-requires returns)
