@@ -160,7 +160,7 @@ impl Device {
     }
 
     // The error mode, with this status.
-    pub fn fail(self, status: u8) -> Device
+    fn fail(self, status: u8) -> Device
         ensures { λ r. ⌜ r ≡ failed self status ⌝ }
     {
         Device {

@@ -44,7 +44,7 @@ pub struct Spelled {
     pub count: u16,
 }
 
-pub fn mode(code: u8) -> Mode {
+pub(crate) fn mode(code: u8) -> Mode {
     match code {
         LEFT => Mode::Left,
         IDLE => Mode::Idle,
@@ -58,7 +58,7 @@ pub fn mode(code: u8) -> Mode {
     }
 }
 
-pub fn code(mode: Mode) -> u8 {
+pub(crate) fn code(mode: Mode) -> u8 {
     match mode {
         Mode::Left => LEFT,
         Mode::Rebooting => REBOOTING,
@@ -72,7 +72,7 @@ pub fn code(mode: Mode) -> u8 {
     }
 }
 
-pub fn pending(s: Spelled) -> Pending {
+pub(crate) fn pending(s: Spelled) -> Pending {
     let kind = s.kind;
     match kind {
         SET_POINTER => Pending::SetPointer(s.address),
@@ -98,7 +98,7 @@ fn bare(kind: u8) -> Spelled
     }
 }
 
-pub fn spell(pending: Pending) -> Spelled
+pub(crate) fn spell(pending: Pending) -> Spelled
     ensures { λ r. ⌜ r .kind < 16 ⌝ }
 {
     match pending {

@@ -3,20 +3,20 @@ ghost use Prim.Native.Nat.{_≤_, _<_, _+_};
 ghost use mathlib.Core.Path.{_≡_};
 ghost use lib.ListN.{length};
 
-pub fn least(a: usize, b: usize) -> usize
+pub(crate) fn least(a: usize, b: usize) -> usize
     ensures { λ r. ⌜ (r ≤ a) × (r ≤ b) ⌝ }
 {
     if a < b { a } else { b }
 }
 
-pub fn wide(x: u8) -> usize
+pub(crate) fn wide(x: u8) -> usize
     ensures { λ r. ⌜ (r ≡ x) × (r < 256) ⌝ }
 {
     x as usize
 }
 
 // n bytes of one slice into another.
-pub fn copy(src: &[u8], from: usize, dst: &mut [u8], to: usize, n: usize)
+pub(crate) fn copy(src: &[u8], from: usize, dst: &mut [u8], to: usize, n: usize)
     requires { ⌜ from + n ≤ length (now src) ⌝ }
     requires { ⌜ to + n ≤ length (now dst) ⌝ }
 {
@@ -28,7 +28,7 @@ pub fn copy(src: &[u8], from: usize, dst: &mut [u8], to: usize, n: usize)
 }
 
 // From one index up to another: the seed, then each byte by the step more than the one before, past 255 from 0 on.
-pub fn ramp(s: &mut [u8], from: usize, to: usize, step: usize, seed: u8)
+pub(crate) fn ramp(s: &mut [u8], from: usize, to: usize, step: usize, seed: u8)
     requires { ⌜ to ≤ length (now s) ⌝ }
     requires { ⌜ step < 256 ⌝ }
 {
@@ -42,7 +42,7 @@ pub fn ramp(s: &mut [u8], from: usize, to: usize, step: usize, seed: u8)
 }
 
 // Bytes that differ from place to place and from page to page.
-pub fn mottle(s: &mut [u8], seed: u8)
+pub(crate) fn mottle(s: &mut [u8], seed: u8)
     requires { ⌜ length (now s) ≤ 65536 ⌝ }
 {
     let start = wide(seed);

@@ -151,7 +151,7 @@ fn write_front(line: &Line, n: usize)
     io::write_all(STDOUT_FILENO, &whole[0..n]);
 }
 
-pub fn print(scene: Scene, stepped: Stepped, memory: &Memory, block: &Block, reply: &Reply) {
+pub(crate) fn print(scene: Scene, stepped: Stepped, memory: &Memory, block: &Block, reply: &Reply) {
     let mut line = [b' '; ROOM];
     let answer = stepped.answer;
     let device = stepped.device;

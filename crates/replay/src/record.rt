@@ -78,12 +78,12 @@ pub const REQUEST_ROOM: usize = SETUP_SIZE + MOST_DATA;
 
 pub type Request = [u8; REQUEST_ROOM];
 
-pub fn kind(record: &Record) -> u8 {
+pub(crate) fn kind(record: &Record) -> u8 {
     record[KIND_AT]
 }
 
 // How many events the record is.
-pub fn events(record: &Record) -> u64
+pub(crate) fn events(record: &Record) -> u64
     ensures { λ r. ⌜ r ≤ 1 ⌝ }
 {
     match record[KIND_AT] {
@@ -92,7 +92,7 @@ pub fn events(record: &Record) -> u64
     }
 }
 
-pub fn event(record: &Record) -> Event {
+pub(crate) fn event(record: &Record) -> Event {
     match record[KIND_AT] {
         REQUEST => Event::Request,
         _ => Event::Attach,
@@ -120,7 +120,7 @@ fn word(record: &Record, at: usize) -> u32
     join32(record[at], record[at + 1], record[at + 2], record[at + 3])
 }
 
-pub fn device(record: &Record) -> Device {
+pub(crate) fn device(record: &Record) -> Device {
     let mode = codes::mode(record[MODE_AT]);
     let command = Spelled {
         kind: record[COMMAND_AT],
@@ -137,12 +137,12 @@ pub fn device(record: &Record) -> Device {
     }
 }
 
-pub fn offset(record: &Record) -> usize {
+pub(crate) fn offset(record: &Record) -> usize {
     word(record, OFFSET_AT) as usize
 }
 
 // Lays the bytes of the event into the request, and answers how many there are: for Attach none.
-pub fn request(record: &Record, request: &mut Request) -> usize
+pub(crate) fn request(record: &Record, request: &mut Request) -> usize
     ensures { λ r. do ⌜ r ≤ (← ⟦REQUEST_ROOM⟧ .entry) ⌝ }
 {
     if record[KIND_AT] != REQUEST {

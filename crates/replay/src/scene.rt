@@ -72,7 +72,7 @@ fn fresh() -> Device {
     }
 }
 
-pub fn empty() -> Scene {
+pub(crate) fn empty() -> Scene {
     Scene {
         device: fresh(),
         memory: 0,
@@ -82,7 +82,7 @@ pub fn empty() -> Scene {
 }
 
 // Right, a byte short, a byte long, or empty.
-pub fn sized(code: u8, right: usize) -> usize
+pub(crate) fn sized(code: u8, right: usize) -> usize
     requires { ⌜ (0 < right) × (right < 65536) ⌝ }
     ensures { λ r. ⌜ r ≤ right + 1 ⌝ }
 {
@@ -107,7 +107,12 @@ fn paint(memory: &mut Memory, pattern: u8, seed: u8) {
     }
 }
 
-pub fn set(record: &Record, memory: &mut Memory, block: &mut Block, reply: &mut Reply) -> Scene {
+pub(crate) fn set(
+    record: &Record,
+    memory: &mut Memory,
+    block: &mut Block,
+    reply: &mut Reply,
+) -> Scene {
     let seed = record[record::SEED_AT];
     paint(memory, record[record::PATTERN_AT], seed);
     fill::copy(record, record::OPTIONS_AT, memory, OPTIONS_AT, OPTIONS);
@@ -122,7 +127,7 @@ pub fn set(record: &Record, memory: &mut Memory, block: &mut Block, reply: &mut 
     }
 }
 
-pub fn poke(record: &Record, memory: &mut Memory) {
+pub(crate) fn poke(record: &Record, memory: &mut Memory) {
     let offset = record::offset(record);
     if offset < MEMORY_ROOM {
         memory[offset] = record[record::BYTE_AT];
@@ -156,7 +161,7 @@ fn step(
     )
 }
 
-pub fn perform(
+pub(crate) fn perform(
     scene: Scene,
     event: Event,
     request: &Request,
