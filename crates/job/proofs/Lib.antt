@@ -1,0 +1,4 @@
+pub mod Spelling
+pub mod FirstLine
+pub mod Formed
+pub mod LineLength
