@@ -28,6 +28,11 @@ same-eq (x ∷ xs) (y ∷ ys) e =
     let p = and-true (eqb x y) (same xs ys) e in
     ap₂ _∷_ (eqb-true x y (p .0)) (same-eq xs ys (p .1))
 
+-- lists, one after the other
+unfoldable pub joined : List (List ℕ) → List ℕ
+joined [] = []
+joined (l ∷ ls) = l ++ joined ls
+
 -- the first line and what comes after it
 pub first-rest : (u : List ℕ) → firstLine u ++ drop (length (firstLine u)) u ≡ u
 unfolding firstLine

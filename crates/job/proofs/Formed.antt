@@ -44,6 +44,14 @@ bytes-append (x ∷ xs) ys h k =
     let p = and-true (ltb x 256) (allBytes xs) h in
     rw (p .0, bytes-append xs ys (p .1) k)
 
+pub bytes-apart : (xs ys : List ℕ) → allBytes (xs ++ ys) ≡ true → (allBytes xs ≡ true) × (allBytes ys ≡ true)
+unfolding allBytes
+bytes-apart [] ys h = (refl, h)
+bytes-apart (x ∷ xs) ys h =
+    let p = and-true (ltb x 256) (allBytes (xs ++ ys)) h in
+    let q = bytes-apart xs ys (p .1) in
+    (rw (p .0, q .0), q .1)
+
 pub bytes-take : (n : ℕ) (xs : List ℕ) → allBytes xs ≡ true → allBytes (take n xs) ≡ true
 unfolding allBytes
 bytes-take zero xs h = refl

@@ -1,0 +1,121 @@
+-- An answer's numbers tell which answer it is, and what each call gives in each case. Assumes nothing.
+use mathlib.Core.Path.{_≡_, refl, ap, ap₂, _∙_, sym}
+use mathlib.Core.Bool.{Bool, true, false, cond}
+use mathlib.Core.List.{List, [], _∷_}
+use Prim.Native.Nat.{ℕ, _≤_, _<_}
+use native.Mathlib.Omega.{arith}
+use lib.Dec.{eqb, ltb, leb}
+use lib.ListN.{length, getD}
+use borrow.Author.Tests.{eq-eqb, ne-eqb, lt-ltb, le-ltb, le-leb, lt-leb, ltb-false, leb-true, eqb-true}
+use Rattle.laws.specs.Bytes.{put}
+use Rattle.laws.proofs.Split.{by-bool, by-lt, by-eq}
+use Rattle.refusal.specs.declared.Refusal.{Refusal}
+use Rattle.refusal.specs.declared.Refusal.the-variants.{Text, Line, Output, Request}
+use Rattle.refusal.specs.Refusal.{numberOf, lineOf}
+use Rattle.refusal.proofs.Numbers.{refusal-injective, number-some}
+use Rattle.job.specs.declared.Done.{Done}
+use Rattle.job.specs.declared.Done.the-variants.{Bytes, Refused}
+use Rattle.job.specs.Event.{textOf, packedOf}
+use Rattle.job.specs.Text.{limit, firstBad, eventsOf}
+use Rattle.job.specs.Packed.{packs, unpacked}
+use Rattle.job.specs.Calls.{told, Outcome, left, delivered, measureOf, readOf, writeOf}
+
+first : List ℕ → ℕ
+first l = getD l 0 0
+
+second : List ℕ → ℕ
+second l = getD l 1 0
+
+pub told-injective : (r s : Done) → told r ≡ told s → r ≡ s
+unfolding first second
+told-injective (Bytes m) (Bytes n) e = ap Bytes (ap second e)
+told-injective (Bytes m) (Refused s) e = let z : 0 ≡ numberOf s = ap first e in let h = number-some s in absurd (omega arith)
+told-injective (Refused r) (Bytes n) e = let z : numberOf r ≡ 0 = ap first e in let h = number-some r in absurd (omega arith)
+told-injective (Refused r) (Refused s) e = ap Refused (refusal-injective r s (ap first e) (ap second e))
+
+-- two outcomes that are the same agree in answer and buffer
+pub left-injective : (r s : Done) (x y : List ℕ) → left r x ≡ left s y → (r ≡ s) × (x ≡ y)
+left-injective r s x y e = (told-injective r s (ap (λ (o : Outcome). o .answer) e), ap (λ (o : Outcome). o .buffer) e)
+
+-- what was delivered, where an answer of n bytes was given
+pub delivered-bytes : (xs out : List ℕ) (n : ℕ) → delivered xs out .answer ≡ 0 ∷ n ∷ [] → (n ≡ length xs) × (delivered xs out .buffer ≡ put 0 xs out)
+unfolding delivered first second
+delivered-bytes xs out n e =
+    by-bool (leb (length xs) (length out))
+    (λ h. (sym (ap second (rw h at e)), rw h))
+    (λ h. let z : _≡_ {A = ℕ} 11 0 = ap first (rw h at e) in absurd (omega arith))
+
+pub delivered-room : (xs out : List ℕ) → length xs ≤ length out → delivered xs out ≡ left (Bytes (length xs)) (put 0 xs out)
+unfolding delivered
+delivered-room xs out h = rw (le-leb (length xs) (length out) h)
+
+-- the reader in each case
+module _ (t out : List ℕ) where
+  pub read-long : limit < length t → readOf t out ≡ left (Refused Text) out
+  unfolding readOf
+  read-long h = rw (lt-ltb limit (length t) h)
+
+  pub read-bad : length t ≤ limit → (firstBad t ≡ 0 → ⊥) → readOf t out ≡ left (Refused (Line (firstBad t))) out
+  unfolding readOf
+  read-bad h n = rw (le-ltb limit (length t) h, ne-eqb (firstBad t) 0 n)
+
+  pub read-good : length t ≤ limit → firstBad t ≡ 0 → readOf t out ≡ delivered (packedOf (eventsOf t)) out
+  unfolding readOf
+  read-good h e = rw (le-ltb limit (length t) h, eq-eqb (firstBad t) 0 e)
+
+  -- an answer of n bytes is that of a text that is short enough, and has no malformed line
+  pub read-bytes : (n : ℕ) → readOf t out .answer ≡ 0 ∷ n ∷ [] → (length t ≤ limit) × (firstBad t ≡ 0) × (n ≡ length (packedOf (eventsOf t))) × (readOf t out .buffer ≡ put 0 (packedOf (eventsOf t)) out)
+  unfolding first
+  read-bytes n e =
+      by-lt limit (length t)
+      (λ h. let z : _≡_ {A = ℕ} 9 0 = ap first (sym (ap (λ (o : Outcome). o .answer) (read-long h)) ∙ e) in absurd (omega arith))
+      (λ h.
+      by-eq (firstBad t) 0
+      (λ g.
+      let r = read-good h g in
+      let d = delivered-bytes (packedOf (eventsOf t)) out n (sym (ap (λ (o : Outcome). o .answer) r) ∙ e) in
+      (h, g, d .0, ap (λ (o : Outcome). o .buffer) r ∙ d .1))
+      (λ g. let z : _≡_ {A = ℕ} 10 0 = ap first (sym (ap (λ (o : Outcome). o .answer) (read-bad h g)) ∙ e) in absurd (omega arith)))
+
+-- the writer in each case
+module _ (p out : List ℕ) where
+  pub write-broken : packs p ≡ false → writeOf p out ≡ left (Refused Request) out
+  unfolding writeOf
+  write-broken h = rw h
+
+  pub write-long : packs p ≡ true → limit < length (textOf (unpacked p)) → writeOf p out ≡ left (Refused Text) out
+  unfolding writeOf
+  write-long h l = rw (h, lt-ltb limit (length (textOf (unpacked p))) l)
+
+  pub write-good : packs p ≡ true → length (textOf (unpacked p)) ≤ limit → writeOf p out ≡ delivered (textOf (unpacked p)) out
+  unfolding writeOf
+  write-good h l = rw (h, le-ltb limit (length (textOf (unpacked p))) l)
+
+  pub write-bytes : (n : ℕ) → writeOf p out .answer ≡ 0 ∷ n ∷ [] → (packs p ≡ true) × (length (textOf (unpacked p)) ≤ limit) × (n ≡ length (textOf (unpacked p))) × (writeOf p out .buffer ≡ put 0 (textOf (unpacked p)) out)
+  unfolding first
+  write-bytes n e =
+      by-bool (packs p)
+      (λ h.
+      by-lt limit (length (textOf (unpacked p)))
+      (λ l. let z : _≡_ {A = ℕ} 9 0 = ap first (sym (ap (λ (o : Outcome). o .answer) (write-long h l)) ∙ e) in absurd (omega arith))
+      (λ l.
+      let r = write-good h l in
+      let d = delivered-bytes (textOf (unpacked p)) out n (sym (ap (λ (o : Outcome). o .answer) r) ∙ e) in
+      (h, l, d .0, ap (λ (o : Outcome). o .buffer) r ∙ d .1)))
+      (λ h. let z : _≡_ {A = ℕ} 5 0 = ap first (sym (ap (λ (o : Outcome). o .answer) (write-broken h)) ∙ e) in absurd (omega arith))
+
+-- a list delivered under another name
+pub delivers : (xs ys out : List ℕ) → xs ≡ ys → length ys ≤ length out → delivered xs out ≡ left (Bytes (length ys)) (put 0 ys out)
+delivers xs ys out e h = ap (λ (l : List ℕ). delivered l out) e ∙ delivered-room ys out h
+
+-- a text without a malformed line is never refused with 10
+pub never-ten : (t out : List ℕ) (k : ℕ) → firstBad t ≡ 0 → readOf t out ≡ left (Refused (Line k)) out → ⊥
+unfolding first delivered
+never-ten t out k g e =
+    by-lt limit (length t)
+    (λ h. let z : _≡_ {A = ℕ} 9 10 = ap (λ (o : Outcome). first (o .answer)) (sym (read-long t out h) ∙ e) in omega arith)
+    (λ h.
+    let d : delivered (packedOf (eventsOf t)) out ≡ left (Refused (Line k)) out = sym (read-good t out h g) ∙ e in
+    by-bool (leb (length (packedOf (eventsOf t))) (length out))
+    (λ b. let z : _≡_ {A = ℕ} 0 10 = ap (λ (o : Outcome). first (o .answer)) (rw b at d) in omega arith)
+    (λ b. let z : _≡_ {A = ℕ} 11 10 = ap (λ (o : Outcome). first (o .answer)) (rw b at d) in omega arith))

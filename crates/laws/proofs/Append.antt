@@ -1,0 +1,20 @@
+-- Laws of lists laid one behind the other, and of what is then in front. Assumes nothing.
+use mathlib.Core.Path.{_≡_, refl, ap, _∙_, sym}
+use mathlib.Core.List.{List, [], _∷_, _++_}
+use Prim.Native.Nat.{ℕ, zero, suc, _+_, _≤_}
+use native.Mathlib.Nat.{add-zero, add-suc, suc-add}
+use native.Mathlib.Omega.{arith}
+use lib.ListN.{length, take, drop, set}
+use lib.Seq.{sets, take-append-seam}
+use Rattle.laws.specs.Bytes.{put}
+
+pub sets-append : (xs ys m : List ℕ) (i : ℕ) → sets m i (xs ++ ys) ≡ sets (sets m i xs) (i + length xs) ys
+sets-append [] ys m i = rw (add-zero i)
+sets-append (x ∷ xs) ys m i =
+    let e : suc i + length xs ≡ i + suc (length xs) = omega arith in
+    sets-append xs ys (set m i x) (suc i) ∙ ap (λ (k : ℕ). sets (sets (set m i x) (suc i) xs) k ys) e
+
+-- what was put at the front is the front
+pub take-put : (xs m : List ℕ) → take (length xs) (put 0 xs m) ≡ xs
+unfolding put
+take-put xs m = take-append-seam xs (drop (0 + length xs) m)
