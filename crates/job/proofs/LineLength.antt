@@ -90,12 +90,12 @@ module _ (u : List ℕ) (k : getD u 0 0 ≡ 81) where
   pub no-setup : allDigits (take 16 (drop 2 u)) ≡ false → 0 ≡ lineLength u
   no-setup e = no-request (λ x. true≢false (sym (ap allDigits (asks-facts x .setup) ∙ digits-hex (x .a)) ∙ e))
 
-  -- n digits of data are asked for, and end is the place behind them
-  module _ (n end : ℕ) (asked : n ≡ dataLength (setupOf (bytesOf (take 16 (drop 2 u)))) * 2) (ends : end ≡ 19 + n) where
-    asked-is : (x : Asks u) → n ≡ length (x .b) * 2
-    asked-is x = asked ∙ ap (λ (m : ℕ). m * 2) (ap (λ (l : List ℕ). dataLength (setupOf l)) (asks-setup x) ∙ asks-data x)
+  -- m bytes of data are asked for, and end is the place behind their digits
+  module _ (m end : ℕ) (asked : m ≡ dataLength (setupOf (bytesOf (take 16 (drop 2 u))))) (ends : end ≡ 19 + m * 2) where
+    asked-is : (x : Asks u) → m ≡ length (x .b)
+    asked-is x = asked ∙ ap (λ (l : List ℕ). dataLength (setupOf l)) (asks-setup x) ∙ asks-data x
 
-    pub data-short : length u - 20 < n → 0 ≡ lineLength u
+    pub data-short : (length u - 20) / 2 < m → 0 ≡ lineLength u
     data-short h =
         no-request
         (λ x.
@@ -104,27 +104,29 @@ module _ (u : List ℕ) (k : getD u 0 0 ≡ 81) where
         omega arith)
 
     pub no-end : (getD u end 0 ≡ 10 → ⊥) → 0 ≡ lineLength u
-    no-end d = no-request (λ x. d (ap (λ (m : ℕ). getD u m 0) (ends ∙ ap (λ (m : ℕ). 19 + m) (asked-is x)) ∙ asks-facts x .stop))
+    no-end d = no-request (λ x. d (ap (λ (i : ℕ). getD u i 0) (ends ∙ ap (λ (i : ℕ). 19 + i * 2) (asked-is x)) ∙ asks-facts x .stop))
 
     pub no-data : allDigits (take (end - 19) (drop 19 u)) ≡ false → 0 ≡ lineLength u
     no-data d =
         no-request
         (λ x.
         let e : end - 19 ≡ length (x .b) * 2 = let z = asked-is x in omega arith in
-        true≢false (sym (ap (λ (m : ℕ). allDigits (take m (drop 19 u))) e ∙ ap allDigits (asks-facts x .body) ∙ digits-hex (x .b)) ∙ d))
+        true≢false (sym (ap (λ (i : ℕ). allDigits (take i (drop 19 u))) e ∙ ap allDigits (asks-facts x .body) ∙ digits-hex (x .b)) ∙ d))
 
     -- and all of them together
-    pub request-line : 20 ≤ length u → getD u 1 0 ≡ 9 → getD u 18 0 ≡ 9 → allDigits (take 16 (drop 2 u)) ≡ true → n ≤ length u - 20 → getD u end 0 ≡ 10 → allDigits (take (end - 19) (drop 19 u)) ≡ true → 20 + n ≡ lineLength u
+    pub request-line : 20 ≤ length u → getD u 1 0 ≡ 9 → getD u 18 0 ≡ 9 → allDigits (take 16 (drop 2 u)) ≡ true → m ≤ (length u - 20) / 2 → getD u end 0 ≡ 10 → allDigits (take (end - 19) (drop 19 u)) ≡ true → end + 1 ≡ lineLength u
     request-line long f s p room t d =
+        let n = m * 2 in
         let l : 16 ≤ length (drop 2 u) = simp length-drop (omega arith) in
-        let m : n ≤ length (drop 19 u) = simp length-drop (omega arith) in
+        let o : n ≤ length (drop 19 u) = simp length-drop (omega arith) in
         let g : 20 + n ≤ length u = omega arith in
         let e : end - 19 ≡ n = omega arith in
         let even : n % 2 ≡ 0 = omega arith in
         let a = bytesOf (take 16 (drop 2 u)) in
         let b = bytesOf (take n (drop 19 u)) in
         let la : length a ≡ 8 = bytes-length (take 16 (drop 2 u)) ∙ rw (length-take-le 16 (drop 2 u) l) in
-        let lb : length b * 2 ≡ n = let z : length b ≡ length (take n (drop 19 u)) / 2 = bytes-length (take n (drop 19 u)) in let w : length (take n (drop 19 u)) ≡ n = length-take-le n (drop 19 u) m in omega arith in
+        let z : length b ≡ length (take n (drop 19 u)) / 2 = bytes-length (take n (drop 19 u)) in
+        let w : length (take n (drop 19 u)) ≡ n = length-take-le n (drop 19 u) o in
         let la₈ : 8 ≤ length a = omega arith in
         let sz : length (a ++ b) ≡ length a + length b = length-append a b in
         let want : dataLength (setupOf (a ++ b)) ≡ dataLength (setupOf a) = ap dataLength (setup-front a b la₈) in
@@ -139,4 +141,5 @@ module _ (u : List ℕ) (k : getD u 0 0 ≡ 81) where
           inB = bytes-are (take n (drop 19 u));
           is = is-spelled u n g k f s (ap (λ (i : ℕ). getD u i 0) (sym ends) ∙ t) p (ap (λ (i : ℕ). allDigits (take i (drop 19 u))) (sym e) ∙ d) even;
         } in
-        sym (length-good u (asks-formed x) ∙ asks-length x ∙ ap (λ (i : ℕ). 20 + i) lb)
+        let q : 20 + length b * 2 ≡ end + 1 = omega arith in
+        sym (length-good u (asks-formed x) ∙ asks-length x ∙ q)

@@ -1,10 +1,10 @@
 -- Laws of lists laid one behind the other, and of what is then in front. Assumes nothing.
 use mathlib.Core.Path.{_≡_, refl, ap, _∙_, sym}
-use mathlib.Core.List.{List, [], _∷_, _++_}
+use mathlib.Core.List.{List, [], _∷_, _++_, append-nil}
 use Prim.Native.Nat.{ℕ, zero, suc, _+_, _≤_}
 use native.Mathlib.Nat.{add-zero, add-suc, suc-add}
 use native.Mathlib.Omega.{arith}
-use lib.ListN.{length, take, drop, set}
+use lib.ListN.{length, take, drop, set, drop-of-length-le}
 use lib.Seq.{sets, take-append-seam}
 use Rattle.laws.specs.Bytes.{put}
 
@@ -18,3 +18,10 @@ sets-append (x ∷ xs) ys m i =
 pub take-put : (xs m : List ℕ) → take (length xs) (put 0 xs m) ≡ xs
 unfolding put
 take-put xs m = take-append-seam xs (drop (0 + length xs) m)
+
+-- what covers all of a list replaces it
+pub put-over : (xs m : List ℕ) → length m ≤ length xs → put 0 xs m ≡ xs
+unfolding put
+put-over xs m h =
+    let k : length m ≤ 0 + length xs = omega arith in
+    ap (λ (l : List ℕ). xs ++ l) (drop-of-length-le m k) ∙ append-nil xs
