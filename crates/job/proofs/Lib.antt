@@ -2,6 +2,7 @@ pub mod Spelling
 pub mod FirstLine
 pub mod Formed
 pub mod LineLength
+pub mod Walking
 pub mod EventText
 pub mod EventPacked
 pub mod Answers

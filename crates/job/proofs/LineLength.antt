@@ -15,7 +15,7 @@ use Rattle.hex.proofs.Fields.{bytes-are, bytes-length, digits-hex}
 use Rattle.job.specs.Event.{Event, attach, request, fits, lineOf, same}
 use Rattle.job.specs.Text.{firstLine, eventOf, wellFormed, lineLength}
 use Rattle.job.proofs.Spelling.{spelled, is-spelled}
-use Rattle.job.proofs.FirstLine.{same-refl, same-eq, first-rest, first-kind, first-attach}
+use Rattle.job.proofs.FirstLine.{same-refl, same-eq, first-rest, first-kind, first-length, first-attach}
 use Rattle.job.proofs.Formed.{fits-if, setup-front, Asks, asks, asks-facts, asks-formed, asks-length, asks-setup, asks-data}
 
 pub length-good : (u : List ℕ) → wellFormed (firstLine u) ≡ true → lineLength u ≡ length (firstLine u)
@@ -25,6 +25,15 @@ length-good u h = rw h
 pub length-bad : (u : List ℕ) → wellFormed (firstLine u) ≡ false → 0 ≡ lineLength u
 unfolding lineLength
 length-bad u h = rw h
+
+length-within : (u : List ℕ) (n : ℕ) → n ≡ lineLength u → n ≤ length u
+length-within u n e =
+    by-bool (wellFormed (firstLine u))
+    (λ h. let l : lineLength u ≡ length (firstLine u) = length-good u h in let w = first-length u in omega arith)
+    (λ h. let l : 0 ≡ lineLength u = length-bad u h in omega arith)
+
+pub length-and-bound : (u : List ℕ) (n : ℕ) → n ≡ lineLength u → (n ≡ lineLength u) × (n ≤ length u)
+length-and-bound u n e = (e, length-within u n e)
 
 -- a line of `A`
 event-attach : (l : List ℕ) → getD l 0 0 ≡ 65 → eventOf l ≡ attach

@@ -8,8 +8,9 @@ ghost use lib.ListN.{length, take, drop, getD};
 ghost use Rattle.laws.specs.Bytes.{put};
 ghost use Rattle.request.specs.Setup.{setupOf};
 ghost use Rattle.hex.specs.Hex.{bytesOf};
-ghost use Rattle.job.specs.Text.{limit, lineLength};
-ghost use Rattle.job.specs.Calls.{itemOf};
+ghost use Rattle.job.specs.Event.{packOf, packedOf};
+ghost use Rattle.job.specs.Text.{limit, firstLine, eventOf, wellFormed, lineLength, packedSize, firstBad, eventsOf};
+ghost use Rattle.job.specs.Calls.{told, left, measureOf, readOf, itemOf};
 
 // A call's answer: how many bytes, or why none.
 pub enum Done {
@@ -78,7 +79,7 @@ fn request_length(rest: &[u8]) -> usize
 
 // How long the line at the front of `rest` is, or 0 where it is malformed.
 fn line_length(rest: &[u8]) -> usize
-    ensures { λ r. ⌜ r ≡ lineLength (now (rest .entry)) ⌝ }
+    ensures { λ r. ⌜ (r ≡ lineLength (now (rest .entry))) × (r ≤ length (now (rest .entry))) ⌝ }
 {
     let kind = buffer::byte_at(rest, 0);
     match kind {
@@ -91,4 +92,68 @@ fn line_length(rest: &[u8]) -> usize
         b'Q' => request_length(rest),
         _ => 0,
     }
+}
+
+// How many bytes the event of a line of this length takes when packed.
+fn packed_size(line: usize) -> usize
+    requires { ⌜ 1 ≤ line ⌝ }
+    ensures { λ r. ⌜ (r ≡ packedSize line) × (r ≤ line) ⌝ }
+{
+    if line < 20 {
+        return 1;
+    }
+    line / 2 - 1
+}
+
+// What stands at a place of the text.
+pub fn item_at(text: &[u8], at: usize) -> Item
+    ensures { λ r. ⌜ r ≡ itemOf (now (text .entry)) at ⌝ }
+{
+    if text.len() <= at {
+        return Item::End;
+    }
+    let line = line_length(&text[at..]);
+    if line == 0 {
+        return Item::Bad;
+    }
+    let next = at + line;
+    if line < 20 {
+        return Item::Attach { next };
+    }
+    let asked = setup(&text[at + 2..at + 18]);
+    Item::Request {
+        setup: asked,
+        data: at + 19,
+        next,
+    }
+}
+
+// The first malformed line, or how many bytes the text's events take when packed: one pass, a line a turn.
+fn scan(text: &[u8]) -> Done
+    requires { ⌜ length (now text) ≤ limit ⌝ }
+    ensures { λ r. ⌜ r ≡ measureOf (now (text .entry)) ⌝ }
+{
+    let mut at = 0;
+    let mut number = 1;
+    let mut size = 0;
+    while at < text.len() {
+        let line = line_length(&text[at..]);
+        if line == 0 {
+            return Done::Refused(Refusal::Line(number));
+        }
+        size += packed_size(line);
+        number += 1;
+        at += line;
+    }
+    Done::Bytes(size)
+}
+
+// How many bytes the text's events take when packed, or why the text is none.
+pub fn measure(text: &[u8]) -> Done
+    ensures { λ r. ⌜ told r ≡ told (measureOf (now (text .entry))) ⌝ }
+{
+    if LIMIT < text.len() {
+        return Done::Refused(Refusal::Text);
+    }
+    scan(text)
 }
