@@ -77,6 +77,56 @@ module _ (t out : List ℕ) where
       (h, g, d .0, ap (λ (o : Outcome). o .buffer) r ∙ d .1))
       (λ g. let z : _≡_ {A = ℕ} 10 0 = ap first (sym (ap (λ (o : Outcome). o .answer) (read-bad h g)) ∙ e) in absurd (omega arith)))
 
+-- the reader by what `measure` answered
+module _ (t out : List ℕ) (r : Done) (is : told r ≡ told (measureOf t)) where
+  measured : r ≡ measureOf t
+  measured = told-injective r (measureOf t) is
+
+  pub read-refused : (why : Refusal) → r ≡ Refused why → left (Refused why) out ≡ readOf t out
+  unfolding measureOf
+  read-refused why e =
+      let m : Refused why ≡ measureOf t = sym e ∙ measured in
+      by-lt limit (length t)
+      (λ h.
+      let k : Refused why ≡ Refused Text = rw (lt-ltb limit (length t) h) at m in
+      ap (λ (d : Done). left d out) k ∙ sym (read-long t out h))
+      (λ h.
+      by-eq (firstBad t) 0
+      (λ g. let k : Refused why ≡ Bytes (length (packedOf (eventsOf t))) = rw (le-ltb limit (length t) h, eq-eqb (firstBad t) 0 g) at m in let z : _≡_ {A = ℕ} 0 1 = cc in absurd (omega arith))
+      (λ g.
+      let k : Refused why ≡ Refused (Line (firstBad t)) = rw (le-ltb limit (length t) h, ne-eqb (firstBad t) 0 g) at m in
+      ap (λ (d : Done). left d out) k ∙ sym (read-bad t out h g)))
+
+  -- an answer of n bytes is that of a text that is short enough, and has no malformed line
+  module _ (n : ℕ) (e : r ≡ Bytes n) where
+    pub measured-good : (length t ≤ limit) × (firstBad t ≡ 0) × (n ≡ length (packedOf (eventsOf t)))
+    unfolding measureOf
+    measured-good =
+        let m : Bytes n ≡ measureOf t = sym e ∙ measured in
+        by-lt limit (length t)
+        (λ h. let k : Bytes n ≡ Refused Text = rw (lt-ltb limit (length t) h) at m in let z : _≡_ {A = ℕ} 0 1 = cc in absurd (omega arith))
+        (λ h.
+        by-eq (firstBad t) 0
+        (λ g.
+        let k : Bytes n ≡ Bytes (length (packedOf (eventsOf t))) = rw (le-ltb limit (length t) h, eq-eqb (firstBad t) 0 g) at m in
+        (h, g, cc))
+        (λ g. let k : Bytes n ≡ Refused (Line (firstBad t)) = rw (le-ltb limit (length t) h, ne-eqb (firstBad t) 0 g) at m in let z : _≡_ {A = ℕ} 0 1 = cc in absurd (omega arith)))
+
+    pub measured-room : n ≤ length out → length (packedOf (eventsOf t)) ≤ length out
+    measured-room h = let g = measured-good .2 in omega arith
+
+    pub read-short : length out < n → left (Refused Output) out ≡ readOf t out
+    unfolding delivered
+    read-short h =
+        let g = measured-good in
+        let l : length out < length (packedOf (eventsOf t)) = let k = g .2 in omega arith in
+        sym (read-good t out (g .0) (g .1) ∙ rw (lt-leb (length (packedOf (eventsOf t))) (length out) l))
+
+    pub read-done : (out₂ : List ℕ) → n ≤ length out → out₂ ≡ put 0 (packedOf (eventsOf t)) out → left (Bytes n) out₂ ≡ readOf t out
+    read-done out₂ h p =
+        let g = measured-good in
+        ap₂ (λ (k : ℕ) (l : List ℕ). left (Bytes k) l) (g .2) p ∙ sym (read-good t out (g .0) (g .1) ∙ delivered-room (packedOf (eventsOf t)) out (measured-room h))
+
 -- the writer in each case
 module _ (p out : List ℕ) where
   pub write-broken : packs p ≡ false → writeOf p out ≡ left (Refused Request) out

@@ -3,7 +3,9 @@ pub mod FirstLine
 pub mod Formed
 pub mod LineLength
 pub mod Walking
+pub mod Packing
 pub mod EventText
 pub mod EventPacked
+pub mod PackLoop
 pub mod Answers
 pub mod Theorems

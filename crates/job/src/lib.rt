@@ -157,3 +157,59 @@ pub fn measure(text: &[u8]) -> Done
     }
     scan(text)
 }
+
+// Packs the request at the front of `rest` into `out` from place `at` on, and gives the length of its line.
+fn pack_request(rest: &[u8], out: &mut [u8], at: usize) -> usize
+    requires { ⌜ (wellFormed (firstLine (now rest)) ≡ true) × (getD (now rest) 0 0 ≡ 65 → ⊥) × (at + length (packOf (eventOf (firstLine (now rest)))) ≤ length (now out)) ⌝ }
+    ensures { λ r. ⌜ (now (out .exit) ≡ put at (packOf (eventOf (firstLine (now (rest .entry))))) (now (out .entry))) × (r ≡ length (firstLine (now (rest .entry)))) ⌝ }
+{
+    out[at] = 1;
+    hex::decode(&rest[2..18], out, at + 1);
+    let count = Setup::of(&out[at + 1..at + 9]).data_length();
+    let end = 19 + count * 2;
+    hex::decode(&rest[19..end], out, at + 9);
+    end + 1
+}
+
+// Packs the event at the front of `rest` into `out` from place `at` on, and gives the length of its line.
+fn pack_line(rest: &[u8], out: &mut [u8], at: usize) -> usize
+    requires { ⌜ (wellFormed (firstLine (now rest)) ≡ true) × (at + length (packOf (eventOf (firstLine (now rest)))) ≤ length (now out)) ⌝ }
+    ensures { λ r. ⌜ (now (out .exit) ≡ put at (packOf (eventOf (firstLine (now (rest .entry))))) (now (out .entry))) × (r ≡ length (firstLine (now (rest .entry)))) ⌝ }
+{
+    if buffer::byte_at(rest, 0) == b'A' {
+        out[at] = 0;
+        return 2;
+    }
+    pack_request(rest, out, at)
+}
+
+// Packs the text's events into `out`.
+fn pack(text: &[u8], out: &mut [u8])
+    requires { ⌜ (firstBad (now text) ≡ 0) × (length (packedOf (eventsOf (now text))) ≤ length (now out)) ⌝ }
+    ensures { λ _. ⌜ now (out .exit) ≡ put 0 (packedOf (eventsOf (now (text .entry)))) (now (out .entry)) ⌝ }
+{
+    let mut at = 0;
+    let mut to = 0;
+    while at < text.len() {
+        let line = pack_line(&text[at..], out, to);
+        to += packed_size(line);
+        at += line;
+    }
+}
+
+// Reads a text: its events go to the front of `out`, packed.
+pub fn read(text: &[u8], out: &mut [u8]) -> Done
+    ensures { λ r. ⌜ left r (now (out .exit)) ≡ readOf (now (text .entry)) (now (out .entry)) ⌝ }
+{
+    let measured = measure(text);
+    match measured {
+        Done::Refused(why) => Done::Refused(why),
+        Done::Bytes(size) => {
+            if out.len() < size {
+                return Done::Refused(Refusal::Output);
+            }
+            pack(text, out);
+            Done::Bytes(size)
+        }
+    }
+}

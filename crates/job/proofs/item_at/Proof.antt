@@ -1,73 +1,54 @@
+-- `job::item_at` meets its contract. Assumes nothing.
 use Rattle.job.proofs.Walking.{item-end, item-bad, item-attach, item-request}
 use borrow.Author.Needs.{needs}
 use Rattle.job.proofs.item_at.Statement.{statement}
 use Rattle.job.proofs.item_at.Tie as tie
-use Rattle.job.proofs.item_at.Reads as reads
-use Rattle.job.proofs.item_at.Lts as lts
-use Rattle.job.proofs.line_length.Reads as line-length-reads
-use Rattle.job.proofs.setup.Reads as setup-reads
 
--- src/lib.rt:113:9
 returns : tie.Need-returns
 returns c = item-end _ _ (c .if1 .taken)
 
--- src/lib.rt:115:28
 sub-line-length : tie.Need-sub-line-length
 sub-line-length c = search needs
 
--- src/lib.rt:115:28
 part-line-length-start : tie.Need-part-line-length-start
 part-line-length-start c = search needs
 
--- src/lib.rt:115:28
 part-line-length-end : tie.Need-part-line-length-end
 part-line-length-end c = search needs
 
--- src/lib.rt:115:9
 line-length-requires : tie.Need-line-length-requires
 line-length-requires c κs = search needs
 
--- src/lib.rt:117:9
 returns-2 : tie.Need-returns-2
 returns-2 c = item-bad _ _ _ (c .before .before .before .if1 .left) (c .before .line-length .ensures .0) (c .if2 .taken)
 
--- src/lib.rt:119:16
 add-next : tie.Need-add-next
 add-next c = search needs
 
--- src/lib.rt:121:9
 returns-3 : tie.Need-returns-3
 returns-3 c = item-attach _ _ _ (c .before .before .before .before .if1 .left) (c .before .before .line-length .ensures .0) (c .before .if2 .left) (c .if3 .taken)
 
--- src/lib.rt:123:29
 add-setup : tie.Need-add-setup
 add-setup c = search needs
 
--- src/lib.rt:123:37
 add-setup-2 : tie.Need-add-setup-2
 add-setup-2 c = search needs
 
--- src/lib.rt:123:23
 sub-setup : tie.Need-sub-setup
 sub-setup c = search needs
 
--- src/lib.rt:123:23
 part-setup-start : tie.Need-part-setup-start
 part-setup-start c = search needs
 
--- src/lib.rt:123:23
 part-setup-end : tie.Need-part-setup-end
 part-setup-end c = search needs
 
--- src/lib.rt:123:9
 setup-requires : tie.Need-setup-requires
 setup-requires c κs = search needs
 
--- src/lib.rt:126:15
 add-t6 : tie.Need-add-t6
 add-t6 c = search needs
 
--- src/lib.rt:109:1
 returns-4 : tie.Need-returns-4
 returns-4 c =
     let l = c .before .before .before .before in

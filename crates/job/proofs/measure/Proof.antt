@@ -1,22 +1,17 @@
+-- `job::measure` meets its contract. Assumes nothing.
 use Rattle.job.proofs.Walking.{measure-long}
 use Rattle.job.specs.Calls.{told}
 use mathlib.Core.Path.{ap}
 use borrow.Author.Needs.{needs}
 use Rattle.job.proofs.measure.Statement.{statement}
 use Rattle.job.proofs.measure.Tie as tie
-use Rattle.job.proofs.measure.Reads as reads
-use Rattle.job.proofs.measure.Lts as lts
-use Rattle.job.proofs.scan.Reads as scan-reads
 
--- src/lib.rt:156:9
 returns : tie.Need-returns
 returns c = ap told (measure-long _ (c .if1 .taken))
 
--- src/lib.rt:158:5
 scan-requires : tie.Need-scan-requires
 scan-requires c κs = search needs
 
--- src/lib.rt:152:1
 returns-2 : tie.Need-returns-2
 returns-2 c = ap told (c .scan .ensures)
 
