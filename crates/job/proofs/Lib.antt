@@ -4,8 +4,11 @@ pub mod Formed
 pub mod LineLength
 pub mod Walking
 pub mod Packing
+pub mod PieceLength
 pub mod EventText
 pub mod EventPacked
 pub mod PackLoop
+pub mod SpellSize
+pub mod SpellLine
 pub mod Answers
 pub mod Theorems

@@ -44,7 +44,7 @@ module _ (a b r : List ℕ) (la : length a ≡ 8) where
   past : (k : ℕ) → drop (19 + k) (spelled a b r) ≡ drop k (hexOf b ++ (10 ∷ r))
   past k = sym (drop-drop k 19 (spelled a b r)) ∙ ap (drop k) after
 
-  spelled-size : length (spelled a b r) ≡ 20 + length b * 2 + length r
+  pub spelled-size : length (spelled a b r) ≡ 20 + length b * 2 + length r
   spelled-size =
       let w = wide in
       let e : length (hexOf b) ≡ length b * 2 = hex-length b in

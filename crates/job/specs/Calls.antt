@@ -15,7 +15,7 @@ use Rattle.job.specs.declared.Item.{Item}
 use Rattle.job.specs.declared.Item.the-variants as item
 use Rattle.job.specs.Event.{Event, attach, request, textOf, packedOf}
 use Rattle.job.specs.Text.{limit, firstLine, eventOf, wellFormed, firstBad, eventsOf}
-use Rattle.job.specs.Packed.{packs, unpacked}
+use Rattle.job.specs.Packed.{capped, packs, unpacked}
 
 -- an answer in numbers: 0 and how many bytes; or the refusal's number and the line that it names
 abbrev pub told : Done → List ℕ
@@ -44,6 +44,10 @@ unfoldable pub readOf : List ℕ → List ℕ → Outcome
 readOf t out =
     cond (ltb limit (length t)) (left (Refused Text) out)
     (cond (eqb (firstBad t) 0) (delivered (packedOf (eventsOf t)) out) (left (Refused (Line (firstBad t))) out))
+
+-- 5, and how long the text of a packed list is
+unfoldable pub sizeOf : List ℕ → Done
+sizeOf p = cond (packs p) (Bytes (capped (length (textOf (unpacked p))))) (Refused Request)
 
 -- the text writer: 5 "before 9 and 11"
 unfoldable pub writeOf : List ℕ → List ℕ → Outcome

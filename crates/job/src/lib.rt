@@ -8,9 +8,10 @@ ghost use lib.ListN.{length, take, drop, getD};
 ghost use Rattle.laws.specs.Bytes.{put};
 ghost use Rattle.request.specs.Setup.{setupOf};
 ghost use Rattle.hex.specs.Hex.{bytesOf};
-ghost use Rattle.job.specs.Event.{packOf, packedOf};
+ghost use Rattle.job.specs.Event.{request, lineOf, textOf, packOf, packedOf};
 ghost use Rattle.job.specs.Text.{limit, firstLine, eventOf, wellFormed, lineLength, packedSize, firstBad, eventsOf};
-ghost use Rattle.job.specs.Calls.{told, left, measureOf, readOf, itemOf};
+ghost use Rattle.job.specs.Packed.{pieceLength, lineSize, capped, eventIn, wellPacked, packs, unpacked};
+ghost use Rattle.job.specs.Calls.{told, left, measureOf, readOf, sizeOf, writeOf, itemOf};
 
 // A call's answer: how many bytes, or why none.
 pub enum Done {
@@ -212,4 +213,87 @@ pub fn read(text: &[u8], out: &mut [u8]) -> Done
             Done::Bytes(size)
         }
     }
+}
+
+// How many bytes the packed request at the front of `rest` takes, or 0 where the list ends inside it.
+fn request_piece(rest: &[u8]) -> usize
+    requires { ⌜ getD (now rest) 0 0 ≡ 1 ⌝ }
+    ensures { λ r. ⌜ r ≡ pieceLength (now (rest .entry)) ⌝ }
+{
+    if rest.len() < 9 {
+        return 0;
+    }
+    let count = Setup::of(&rest[1..]).data_length();
+    if rest.len() - 9 < count {
+        return 0;
+    }
+    9 + count
+}
+
+// How many bytes the packed event at the front of `rest` takes, or 0 where it is of no kind or ends too early.
+fn piece_length(rest: &[u8]) -> usize
+    requires { ⌜ 0 < length (now rest) ⌝ }
+    ensures { λ r. ⌜ (r ≡ pieceLength (now (rest .entry))) × (r ≤ length (now (rest .entry))) ⌝ }
+{
+    let kind = rest[0];
+    match kind {
+        0 => 1,
+        1 => request_piece(rest),
+        _ => 0,
+    }
+}
+
+// How long the line of an event of `piece` bytes is.
+fn line_size(piece: usize) -> usize
+    requires { ⌜ piece ≤ limit ⌝ }
+    ensures { λ r. ⌜ (r ≡ lineSize piece) × (r ≤ limit * 2 + 2) ⌝ }
+{
+    if piece < 9 {
+        return 2;
+    }
+    piece * 2 + 2
+}
+
+// A text's length with one more line, that of an event of `piece` bytes; it stops just over the limit.
+fn longer(size: usize, piece: usize) -> usize
+    requires { ⌜ size ≤ limit + 1 ⌝ }
+    ensures { λ r. ⌜ (r ≡ capped (size + lineSize piece)) × (r ≤ limit + 1) ⌝ }
+{
+    if LIMIT < piece {
+        return LIMIT + 1;
+    }
+    let total = size + line_size(piece);
+    if LIMIT < total { LIMIT + 1 } else { total }
+}
+
+// How long the text of a packed list is, or that it is no list of whole events.
+fn spelled_size(packed: &[u8]) -> Done
+    ensures { λ r. ⌜ r ≡ sizeOf (now (packed .entry)) ⌝ }
+{
+    let mut at = 0;
+    let mut size = 0;
+    while at < packed.len() {
+        let piece = piece_length(&packed[at..]);
+        if piece == 0 {
+            return Done::Refused(Refusal::Request);
+        }
+        size = longer(size, piece);
+        at += piece;
+    }
+    Done::Bytes(size)
+}
+
+// Writes the line of a request into `out` from place `at` on, and gives its length.
+pub fn write_request(bytes: &[u8], out: &mut [u8], at: usize) -> usize
+    requires { ⌜ (8 ≤ length (now bytes)) × (at + length (lineOf (request (now bytes))) ≤ length (now out)) ⌝ }
+    ensures { λ r. ⌜ (now (out .exit) ≡ put at (lineOf (request (now (bytes .entry)))) (now (out .entry))) × (r ≡ length (lineOf (request (now (bytes .entry))))) ⌝ }
+{
+    let digits = (bytes.len() - 8) * 2;
+    out[at] = b'Q';
+    out[at + 1] = b'\t';
+    hex::encode(&bytes[0..8], out, at + 2);
+    out[at + 18] = b'\t';
+    hex::encode(&bytes[8..], out, at + 19);
+    out[at + 19 + digits] = b'\n';
+    20 + digits
 }
