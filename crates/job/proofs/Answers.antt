@@ -17,8 +17,9 @@ use Rattle.job.specs.declared.Done.{Done}
 use Rattle.job.specs.declared.Done.the-variants.{Bytes, Refused}
 use Rattle.job.specs.Event.{textOf, packedOf}
 use Rattle.job.specs.Text.{limit, firstBad, eventsOf}
-use Rattle.job.specs.Packed.{packs, unpacked}
-use Rattle.job.specs.Calls.{told, Outcome, left, delivered, measureOf, readOf, writeOf}
+use Rattle.job.specs.Packed.{capped, packs, unpacked}
+use Rattle.job.specs.Calls.{told, Outcome, left, delivered, measureOf, readOf, sizeOf, writeOf}
+use Rattle.job.proofs.SpellSize.{capped-is, capped-long}
 
 first : List ℕ → ℕ
 first l = getD l 0 0
@@ -153,6 +154,55 @@ module _ (p out : List ℕ) where
       let d = delivered-bytes (textOf (unpacked p)) out n (sym (ap (λ (o : Outcome). o .answer) r) ∙ e) in
       (h, l, d .0, ap (λ (o : Outcome). o .buffer) r ∙ d .1)))
       (λ h. let z : _≡_ {A = ℕ} 5 0 = ap first (sym (ap (λ (o : Outcome). o .answer) (write-broken h)) ∙ e) in absurd (omega arith))
+
+-- the writer by what `spelled_size` answered
+module _ (p out : List ℕ) (r : Done) (is : r ≡ sizeOf p) where
+  pub write-refused : (why : Refusal) → r ≡ Refused why → left (Refused why) out ≡ writeOf p out
+  unfolding sizeOf
+  write-refused why e =
+      let m : Refused why ≡ sizeOf p = sym e ∙ is in
+      by-bool (packs p)
+      (λ h. let k : Refused why ≡ Bytes (capped (length (textOf (unpacked p)))) = rw h at m in let z : _≡_ {A = ℕ} 0 1 = cc in absurd (omega arith))
+      (λ h.
+      let k : Refused why ≡ Refused Request = rw h at m in
+      ap (λ (d : Done). left d out) k ∙ sym (write-broken p out h))
+
+  -- an answer of n bytes is that of whole events
+  module _ (n : ℕ) (e : r ≡ Bytes n) where
+    sized : (packs p ≡ true) × (n ≡ capped (length (textOf (unpacked p))))
+    unfolding sizeOf
+    sized =
+        let m : Bytes n ≡ sizeOf p = sym e ∙ is in
+        by-bool (packs p)
+        (λ h.
+        let k : Bytes n ≡ Bytes (capped (length (textOf (unpacked p)))) = rw h at m in
+        (h, cc))
+        (λ h. let k : Bytes n ≡ Refused Request = rw h at m in let z : _≡_ {A = ℕ} 0 1 = cc in absurd (omega arith))
+
+    pub sized-packs : packs p ≡ true
+    sized-packs = sized .0
+
+    pub write-too-long : limit < n → left (Refused Text) out ≡ writeOf p out
+    write-too-long h = sym (write-long p out (sized .0) (capped-long (length (textOf (unpacked p))) n (sized .1) h))
+
+    module _ (within : n ≤ limit) where
+      size-is : n ≡ length (textOf (unpacked p))
+      size-is = capped-is (length (textOf (unpacked p))) n (sized .1) within
+
+      small : length (textOf (unpacked p)) ≤ limit
+      small = let e = size-is in omega arith
+
+      pub sized-room : n ≤ length out → length (textOf (unpacked p)) ≤ length out
+      sized-room h = let e = size-is in omega arith
+
+      pub write-short : length out < n → left (Refused Output) out ≡ writeOf p out
+      unfolding delivered
+      write-short h =
+          let l : length out < length (textOf (unpacked p)) = let e = size-is in omega arith in
+          sym (write-good p out (sized .0) small ∙ rw (lt-leb (length (textOf (unpacked p))) (length out) l))
+
+      pub write-done : (out₂ : List ℕ) → n ≤ length out → out₂ ≡ put 0 (textOf (unpacked p)) out → left (Bytes n) out₂ ≡ writeOf p out
+      write-done out₂ h q = ap₂ (λ (k : ℕ) (l : List ℕ). left (Bytes k) l) size-is q ∙ sym (write-good p out (sized .0) small ∙ delivered-room (textOf (unpacked p)) out (sized-room h))
 
 -- a list delivered under another name
 pub delivers : (xs ys out : List ℕ) → xs ≡ ys → length ys ≤ length out → delivered xs out ≡ left (Bytes (length ys)) (put 0 ys out)

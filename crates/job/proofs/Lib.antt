@@ -10,5 +10,6 @@ pub mod EventPacked
 pub mod PackLoop
 pub mod SpellSize
 pub mod SpellLine
+pub mod SpellLoop
 pub mod Answers
 pub mod Theorems

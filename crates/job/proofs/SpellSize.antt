@@ -69,6 +69,16 @@ capped-once n h =
     (λ k. let e : n ≡ limit + 1 = omega arith in sym (capped-over n k) ∙ sym e)
     (λ k. sym (capped-within n k))
 
+-- what a capped length tells
+pub capped-is : (n m : ℕ) → m ≡ capped n → m ≤ limit → m ≡ n
+capped-is n m e h =
+    by-lt limit n
+    (λ k. let z : limit + 1 ≡ capped n = capped-over n k in absurd (omega arith))
+    (λ k. e ∙ sym (capped-within n k))
+
+pub capped-long : (n m : ℕ) → m ≡ capped n → limit < m → limit < n
+capped-long n m e h = by-lt limit n (λ k. k) (λ k. let z : n ≡ capped n = capped-within n k in absurd (omega arith))
+
 -- a line's length, from the packed bytes of its event
 pub line-length-of : (q : List ℕ) → 8 ≤ length q → length (lineOf (request q)) ≡ 20 + (length q - 8) * 2
 unfolding lineOf

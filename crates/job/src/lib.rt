@@ -297,3 +297,50 @@ pub fn write_request(bytes: &[u8], out: &mut [u8], at: usize) -> usize
     out[at + 19 + digits] = b'\n';
     20 + digits
 }
+
+// Writes the line of a packed event into `out` from place `at` on, and gives its length.
+fn write_piece(piece: &[u8], out: &mut [u8], at: usize) -> usize
+    requires { ⌜ (wellPacked (now piece) ≡ true) × (at + length (lineOf (eventIn (now piece))) ≤ length (now out)) ⌝ }
+    ensures { λ r. ⌜ (now (out .exit) ≡ put at (lineOf (eventIn (now (piece .entry)))) (now (out .entry))) × (r ≡ length (lineOf (eventIn (now (piece .entry))))) ⌝ }
+{
+    if buffer::byte_at(piece, 0) == 0 {
+        out[at] = b'A';
+        out[at + 1] = b'\n';
+        return 2;
+    }
+    write_request(&piece[1..], out, at)
+}
+
+// Writes the text of a packed list of whole events into `out`.
+fn spell(packed: &[u8], out: &mut [u8])
+    requires { ⌜ (packs (now packed) ≡ true) × (length (textOf (unpacked (now packed))) ≤ length (now out)) ⌝ }
+    ensures { λ _. ⌜ now (out .exit) ≡ put 0 (textOf (unpacked (now (packed .entry)))) (now (out .entry)) ⌝ }
+{
+    let mut at = 0;
+    let mut to = 0;
+    while at < packed.len() {
+        let end = at + piece_length(&packed[at..]);
+        to += write_piece(&packed[at..end], out, to);
+        at = end;
+    }
+}
+
+// Writes a packed list's text to the front of `out`.
+pub fn write(packed: &[u8], out: &mut [u8]) -> Done
+    ensures { λ r. ⌜ left r (now (out .exit)) ≡ writeOf (now (packed .entry)) (now (out .entry)) ⌝ }
+{
+    let sized = spelled_size(packed);
+    match sized {
+        Done::Refused(why) => Done::Refused(why),
+        Done::Bytes(size) => {
+            if LIMIT < size {
+                return Done::Refused(Refusal::Text);
+            }
+            if out.len() < size {
+                return Done::Refused(Refusal::Output);
+            }
+            spell(packed, out);
+            Done::Bytes(size)
+        }
+    }
+}
