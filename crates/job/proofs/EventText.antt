@@ -51,7 +51,7 @@ line-first (request q) s =
     let e : spelled (take 8 q) (drop 8 q) [] ++ s ≡ spelled (take 8 q) (drop 8 q) s = simp append-assoc in
     ap firstLine e ∙ first-spelled (take 8 q) (drop 8 q) s
 
-line-some : (e : Event) → 0 < length (lineOf e)
+pub line-some : (e : Event) → 0 < length (lineOf e)
 unfolding lineOf
 line-some attach = omega arith
 line-some (request q) = omega arith

@@ -11,5 +11,6 @@ pub mod PackLoop
 pub mod SpellSize
 pub mod SpellLine
 pub mod SpellLoop
+pub mod WalkEvents
 pub mod Answers
 pub mod Theorems

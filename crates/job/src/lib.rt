@@ -331,7 +331,7 @@ pub fn write(packed: &[u8], out: &mut [u8]) -> Done
 {
     let sized = spelled_size(packed);
     match sized {
-        Done::Refused(why) => Done::Refused(why),
+        Done::Refused(fault) => Done::Refused(fault),
         Done::Bytes(size) => {
             if LIMIT < size {
                 return Done::Refused(Refusal::Text);
