@@ -189,12 +189,12 @@ fn pack(text: &[u8], out: &mut [u8])
     requires { ⌜ (firstBad (now text) ≡ 0) × (length (packedOf (eventsOf (now text))) ≤ length (now out)) ⌝ }
     ensures { λ _. ⌜ now (out .exit) ≡ put 0 (packedOf (eventsOf (now (text .entry)))) (now (out .entry)) ⌝ }
 {
-    let mut at = 0;
+    let mut from = 0;
     let mut to = 0;
-    while at < text.len() {
-        let line = pack_line(&text[at..], out, to);
+    while from < text.len() {
+        let line = pack_line(&text[from..], out, to);
         to += packed_size(line);
-        at += line;
+        from += line;
     }
 }
 
@@ -316,12 +316,12 @@ fn spell(packed: &[u8], out: &mut [u8])
     requires { ⌜ (packs (now packed) ≡ true) × (length (textOf (unpacked (now packed))) ≤ length (now out)) ⌝ }
     ensures { λ _. ⌜ now (out .exit) ≡ put 0 (textOf (unpacked (now (packed .entry)))) (now (out .entry)) ⌝ }
 {
-    let mut at = 0;
+    let mut from = 0;
     let mut to = 0;
-    while at < packed.len() {
-        let end = at + piece_length(&packed[at..]);
-        to += write_piece(&packed[at..end], out, to);
-        at = end;
+    while from < packed.len() {
+        let end = from + piece_length(&packed[from..]);
+        to += write_piece(&packed[from..end], out, to);
+        from = end;
     }
 }
 

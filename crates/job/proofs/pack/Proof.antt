@@ -11,10 +11,10 @@ use Rattle.job.proofs.pack.Statement.{statement}
 use Rattle.job.proofs.pack.Tie as tie
 
 abbrev Inv-loop : tie.InvT-loop
-Inv-loop text out₀ at₀ to₀ out at to = (sets out to (packedOf (eventsOf (drop at text))) ≡ sets out₀ 0 (packedOf (eventsOf text))) × (to + length (packedOf (eventsOf (drop at text))) ≡ length (packedOf (eventsOf text))) × (firstBad (drop at text) ≡ 0) × (at ≤ length text) × (length out ≡ length out₀)
+Inv-loop text out₀ from₀ to₀ out from to = (sets out to (packedOf (eventsOf (drop from text))) ≡ sets out₀ 0 (packedOf (eventsOf text))) × (to + length (packedOf (eventsOf (drop from text))) ≡ length (packedOf (eventsOf text))) × (firstBad (drop from text) ≡ 0) × (from ≤ length text) × (length out ≡ length out₀)
 
 abbrev μ-loop : tie.MeasureT-loop
-μ-loop text out₀ at₀ to₀ out at to = length text - at
+μ-loop text out₀ from₀ to₀ out from to = length text - from
 
 loop-holds : tie.Need-loop-holds Inv-loop μ-loop
 loop-holds c = (refl, omega arith, c .before .before .pre .0, omega arith, refl)
@@ -44,8 +44,8 @@ add-to c =
     let k = c .before .before .before .before .before .before .before .before .before .before .pre .1 in
     omega arith
 
-add-at : tie.Need-add-at Inv-loop μ-loop
-add-at c = let h = next-within _ _ (c .before .before .before .before .before .before .loop-test .taken) (c .before .before .before .before .before .before .before .loop .inv .2) _ (c .before .before .before .pack-line .ensures .1) in omega arith
+add-from : tie.Need-add-from Inv-loop μ-loop
+add-from c = let h = next-within _ _ (c .before .before .before .before .before .before .loop-test .taken) (c .before .before .before .before .before .before .before .loop .inv .2) _ (c .before .before .before .pack-line .ensures .1) in omega arith
 
 loop-less : tie.Need-loop-less Inv-loop μ-loop
 loop-less c =
@@ -82,7 +82,7 @@ pack-spec =
     pack-line-requires
     packed-size-requires
     add-to
-    add-at
+    add-from
     loop-less
     loop-again
     same-length

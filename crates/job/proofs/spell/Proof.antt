@@ -12,10 +12,10 @@ use Rattle.job.proofs.spell.Statement.{statement}
 use Rattle.job.proofs.spell.Tie as tie
 
 abbrev Inv-loop : tie.InvT-loop
-Inv-loop packed out₀ at₀ to₀ out at to = (sets out to (textOf (unpacked (drop at packed))) ≡ sets out₀ 0 (textOf (unpacked packed))) × (to + length (textOf (unpacked (drop at packed))) ≡ length (textOf (unpacked packed))) × (packs (drop at packed) ≡ true) × (at ≤ length packed) × (length out ≡ length out₀)
+Inv-loop packed out₀ from₀ to₀ out from to = (sets out to (textOf (unpacked (drop from packed))) ≡ sets out₀ 0 (textOf (unpacked packed))) × (to + length (textOf (unpacked (drop from packed))) ≡ length (textOf (unpacked packed))) × (packs (drop from packed) ≡ true) × (from ≤ length packed) × (length out ≡ length out₀)
 
 abbrev μ-loop : tie.MeasureT-loop
-μ-loop packed out₀ at₀ to₀ out at to = length packed - at
+μ-loop packed out₀ from₀ to₀ out from to = length packed - from
 
 loop-holds : tie.Need-loop-holds Inv-loop μ-loop
 loop-holds c = (refl, omega arith, c .before .before .pre .0, omega arith, refl)
