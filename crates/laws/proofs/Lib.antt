@@ -1,3 +1,4 @@
+pub mod Append
 pub mod Bytes
 pub mod Split
 pub mod Table

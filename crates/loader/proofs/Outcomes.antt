@@ -7,7 +7,7 @@ use lib.Dec.{eqb}
 use lib.ListN.{getD}
 use Rattle.refusal.specs.declared.Refusal.{Refusal}
 use Rattle.refusal.specs.Refusal.{numberOf, lineOf}
-use Rattle.refusal.proofs.Numbers.{refusalOf, refusal-of-number}
+use Rattle.refusal.proofs.Numbers.{refusalAt, refusal-back}
 use Rattle.device.specs.declared.Device.{Device}
 use Rattle.loader.specs.declared.Answer.{Answer}
 use Rattle.loader.specs.declared.Answer.the-variants.{Accepted, Reply, Stall, Silent, Refused}
@@ -19,7 +19,7 @@ answerOf : List ℕ → Answer
 answerOf l =
     cond (eqb (getD l 0 0) 0) Accepted
     (cond (eqb (getD l 0 0) 1) (Reply (getD l 1 0))
-    (cond (eqb (getD l 0 0) 2) Stall (cond (eqb (getD l 0 0) 3) Silent (Refused (refusalOf (getD l 1 0) (getD l 2 0))))))
+    (cond (eqb (getD l 0 0) 2) Stall (cond (eqb (getD l 0 0) 3) Silent (Refused (refusalAt (getD l 1 0) (getD l 2 0))))))
 
 answer-of-told : (a : Answer) → answerOf (told a) ≡ a
 unfolding answerOf
@@ -27,7 +27,7 @@ answer-of-told Accepted = refl
 answer-of-told (Reply count) = refl
 answer-of-told Stall = refl
 answer-of-told Silent = refl
-answer-of-told (Refused r) = ap Refused (refusal-of-number r)
+answer-of-told (Refused r) = ap Refused (refusal-back r)
 
 pub told-injective : (a a′ : Answer) → told a ≡ told a′ → a ≡ a′
 told-injective a a′ e = sym (answer-of-told a) ∙ ap answerOf e ∙ answer-of-told a′

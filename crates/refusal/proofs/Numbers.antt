@@ -1,41 +1,60 @@
--- A refusal is known by its number and its line. Assumes nothing.
+-- A refusal's number and line tell which refusal it is. Assumes nothing.
 use mathlib.Core.Path.{_≡_, refl, ap₂, _∙_, sym}
 use mathlib.Core.Bool.{cond}
-use Prim.Native.Nat.{ℕ}
+use Prim.Native.Nat.{ℕ, _≤_}
+use native.Mathlib.Omega.{arith}
 use lib.Dec.{eqb}
 use Rattle.refusal.specs.declared.Refusal.{Refusal}
 use Rattle.refusal.specs.declared.Refusal.the-variants.{Memory, Block, Reply, State, Request, Work, Image, Card, Text, Line, Output, Protected, File}
 use Rattle.refusal.specs.Refusal.{numberOf, lineOf}
 
 -- the refusal of a number and a line
-unfoldable pub refusalOf : ℕ → ℕ → Refusal
-refusalOf k line =
-    cond (eqb k 1) Memory
-    (cond (eqb k 2) Block
-    (cond (eqb k 3) Reply
-    (cond (eqb k 4) State
-    (cond (eqb k 5) Request
-    (cond (eqb k 6) Work
-    (cond (eqb k 7) Image
-    (cond (eqb k 8) Card
-    (cond (eqb k 9) Text (cond (eqb k 10) (Line line) (cond (eqb k 11) Output (cond (eqb k 12) Protected File)))))))))))
+unfoldable pub refusalAt : ℕ → ℕ → Refusal
+refusalAt n line =
+    cond (eqb n 1) Memory
+    (cond (eqb n 2) Block
+    (cond (eqb n 3) Reply
+    (cond (eqb n 4) State
+    (cond (eqb n 5) Request
+    (cond (eqb n 6) Work
+    (cond (eqb n 7) Image
+    (cond (eqb n 8) Card
+    (cond (eqb n 9) Text
+    (cond (eqb n 10) (Line line)
+    (cond (eqb n 11) Output
+    (cond (eqb n 12) Protected File)))))))))))
 
-pub refusal-of-number : (r : Refusal) → refusalOf (numberOf r) (lineOf r) ≡ r
-unfolding refusalOf
-refusal-of-number Memory = refl
-refusal-of-number Block = refl
-refusal-of-number Reply = refl
-refusal-of-number State = refl
-refusal-of-number Request = refl
-refusal-of-number Work = refl
-refusal-of-number Image = refl
-refusal-of-number Card = refl
-refusal-of-number Text = refl
-refusal-of-number (Line k) = refl
-refusal-of-number Output = refl
-refusal-of-number Protected = refl
-refusal-of-number File = refl
+pub refusal-back : (r : Refusal) → refusalAt (numberOf r) (lineOf r) ≡ r
+unfolding refusalAt
+refusal-back Memory = refl
+refusal-back Block = refl
+refusal-back Reply = refl
+refusal-back State = refl
+refusal-back Request = refl
+refusal-back Work = refl
+refusal-back Image = refl
+refusal-back Card = refl
+refusal-back Text = refl
+refusal-back (Line line) = refl
+refusal-back Output = refl
+refusal-back Protected = refl
+refusal-back File = refl
 
--- one number (with its line) for each refusal
-pub number-injective : (r s : Refusal) → numberOf r ≡ numberOf s → lineOf r ≡ lineOf s → r ≡ s
-number-injective r s e f = sym (refusal-of-number r) ∙ ap₂ refusalOf e f ∙ refusal-of-number s
+pub refusal-injective : (r s : Refusal) → numberOf r ≡ numberOf s → lineOf r ≡ lineOf s → r ≡ s
+refusal-injective r s n l = sym (refusal-back r) ∙ ap₂ refusalAt n l ∙ refusal-back s
+
+-- no refusal has the number 0
+pub number-some : (r : Refusal) → 1 ≤ numberOf r
+number-some Memory = omega arith
+number-some Block = omega arith
+number-some Reply = omega arith
+number-some State = omega arith
+number-some Request = omega arith
+number-some Work = omega arith
+number-some Image = omega arith
+number-some Card = omega arith
+number-some Text = omega arith
+number-some (Line line) = omega arith
+number-some Output = omega arith
+number-some Protected = omega arith
+number-some File = omega arith

@@ -1,0 +1,123 @@
+-- Laws of a field: its length, its digits and bytes by place, and that field and bytes undo each other. Assumes nothing.
+use mathlib.Core.Path.{_≡_, refl, ap, ap₂, _∙_, sym}
+use mathlib.Core.Bool.{Bool, true, false, _&&_, false≢true}
+use mathlib.Core.List.{List, [], _∷_, _++_}
+use Prim.Native.Nat.{ℕ, zero, suc, _+_, _-_, _*_, _/_, _%_, _≤_, _<_}
+use native.Mathlib.Omega.{arith}
+use native.Mathlib.Numerals.{add-one, add-two}
+use lib.Dec.{ltb}
+use lib.ListN.{length, drop, getD, set, drop-of-length-le}
+use lib.Seq.{drop-cons, sets}
+use borrow.Author.Tests.{lt-ltb, le-ltb, ltb-true}
+use Rattle.laws.specs.Bytes.{put}
+use Rattle.laws.proofs.Append.{put-over}
+use Rattle.laws.proofs.Bytes.{sets-turn, sets-end, sets-put}
+use Rattle.laws.proofs.Split.{and-true}
+use Rattle.hex.specs.Hex.{valueOf, digitOf, byteOf, allDigits, bytesOf, hexOf, allBytes}
+use Rattle.hex.proofs.OneDigit.{value-digit, byte-digits, byte-high, byte-low, byte-small}
+
+pub hex-length : (xs : List ℕ) → length (hexOf xs) ≡ length xs * 2
+unfolding hexOf
+hex-length [] = refl
+hex-length (x ∷ xs) =
+    let e : length (hexOf xs) ≡ length xs * 2 = hex-length xs in
+    omega arith
+
+pub bytes-length : (ds : List ℕ) → length (bytesOf ds) ≡ length ds / 2
+unfolding bytesOf
+bytes-length [] = refl
+bytes-length (d ∷ []) = refl
+bytes-length (d ∷ e ∷ ds) =
+    let q : length (bytesOf ds) ≡ length ds / 2 = bytes-length ds in
+    omega arith
+
+pub bytes-are : (ds : List ℕ) → allBytes (bytesOf ds) ≡ true
+unfolding bytesOf allBytes
+bytes-are [] = refl
+bytes-are (d ∷ []) = refl
+bytes-are (d ∷ e ∷ ds) = rw (lt-ltb (byteOf d e) 256 (byte-small d e), bytes-are ds)
+
+-- the i-th byte that a field spells stands at its digits 2i and 2i + 1
+pub byte-of : (ds : List ℕ) (i : ℕ) → i < length ds / 2 → byteOf (getD ds (i * 2) 0) (getD ds (i * 2 + 1) 0) ≡ getD (bytesOf ds) i 0
+unfolding bytesOf
+byte-of [] i h = absurd (omega arith)
+byte-of (d ∷ []) i h = absurd (omega arith)
+byte-of (d ∷ e ∷ ds) zero h = refl
+byte-of (d ∷ e ∷ ds) (suc i) h =
+    let k : i < length ds / 2 = omega arith in
+    let a : suc i * 2 ≡ suc (suc (i * 2)) = omega arith in
+    let b : suc (suc (i * 2)) + 1 ≡ suc (suc (i * 2 + 1)) = omega arith in
+    rw (a, b) (byte-of ds i k)
+
+-- reading what was spelled gives the bytes
+pub bytes-hex : (xs : List ℕ) → allBytes xs ≡ true → bytesOf (hexOf xs) ≡ xs
+unfolding hexOf bytesOf allBytes
+bytes-hex [] h = refl
+bytes-hex (x ∷ xs) h =
+    let p = and-true (ltb x 256) (allBytes xs) h in
+    ap₂ _∷_ (byte-digits x (ltb-true x 256 (p .0))) (bytes-hex xs (p .1))
+
+pub digits-hex : (xs : List ℕ) → allDigits (hexOf xs) ≡ true
+unfolding hexOf allDigits
+digits-hex [] = refl
+digits-hex (x ∷ xs) =
+    let a : x / 16 % 16 < 16 = omega arith in
+    let b : x % 16 < 16 = omega arith in
+    rw (value-digit (x / 16), value-digit x, lt-ltb (x / 16 % 16) 16 a, lt-ltb (x % 16) 16 b, digits-hex xs)
+
+-- spelling what was read gives the field, where it has digits only, and an even number of them
+pub hex-bytes : (ds : List ℕ) → allDigits ds ≡ true → length ds % 2 ≡ 0 → hexOf (bytesOf ds) ≡ ds
+unfolding hexOf bytesOf allDigits
+hex-bytes [] h k = refl
+hex-bytes (d ∷ []) h k = absurd (omega arith)
+hex-bytes (d ∷ e ∷ ds) h k =
+    let p = and-true (ltb (valueOf d) 16) (ltb (valueOf e) 16 && allDigits ds) h in
+    let q = and-true (ltb (valueOf e) 16) (allDigits ds) (p .1) in
+    let a : valueOf d < 16 = ltb-true _ _ (p .0) in
+    let b : valueOf e < 16 = ltb-true _ _ (q .0) in
+    let m : length ds % 2 ≡ 0 = omega arith in
+    rw (byte-high d e a b, byte-low d e a b, hex-bytes ds (q .1) m)
+
+-- a turn of a loop over a field's digits, and its end
+pub digits-turn : (ds : List ℕ) (i v : ℕ) → i < length ds → v ≡ valueOf (getD ds i 0) → v < 16 → allDigits (drop i ds) ≡ allDigits (drop (i + 1) ds)
+unfolding allDigits
+digits-turn ds i v h e k = rw (drop-cons ds i 0 h, ← e, lt-ltb v 16 k, add-one i)
+
+pub digits-stop : (ds : List ℕ) (i v : ℕ) → i < length ds → v ≡ valueOf (getD ds i 0) → 16 ≤ v → allDigits (drop i ds) ≡ false
+unfolding allDigits
+digits-stop ds i v h e k = rw (drop-cons ds i 0 h, ← e, le-ltb v 16 k)
+
+pub digits-end : (ds : List ℕ) (i : ℕ) → length ds ≤ i → allDigits (drop i ds) ≡ true
+unfolding allDigits
+digits-end ds i h = rw (drop-of-length-le ds h)
+
+-- a turn of a loop that reads a field into m
+pub read-turn : (m ds : List ℕ) (at i v : ℕ) → i < length ds / 2 → v ≡ byteOf (getD ds (i * 2) 0) (getD ds (i * 2 + 1) 0) → sets m (at + i) (drop i (bytesOf ds)) ≡ sets (set m (at + i) v) (at + (i + 1)) (drop (i + 1) (bytesOf ds))
+read-turn m ds at i v h e =
+    let k : i < length (bytesOf ds) = rw (bytes-length ds) h in
+    rw (e, byte-of ds i h) (sets-turn m (bytesOf ds) at i k)
+
+-- its end: all bytes of the field are laid
+pub read-end : (m m₀ ds : List ℕ) (at i : ℕ) → length ds / 2 ≤ i → sets m (at + i) (drop i (bytesOf ds)) ≡ sets m₀ at (bytesOf ds) → at + length ds / 2 ≤ length m₀ → m ≡ put at (bytesOf ds) m₀
+read-end m m₀ ds at i h e room =
+    let k : length (bytesOf ds) ≤ i = rw (bytes-length ds) h in
+    let r : at + length (bytesOf ds) ≤ length m₀ = rw (bytes-length ds) room in
+    sym (sets-end m (bytesOf ds) (at + i) i k) ∙ e ∙ sets-put (bytesOf ds) m₀ at r
+
+-- a turn of a loop that spells bytes into m
+pub spell-turn : (m xs : List ℕ) (at i a b : ℕ) → i < length xs → a ≡ digitOf (getD xs i 0 / 16) → b ≡ digitOf (getD xs i 0) → sets m (at + i * 2) (hexOf (drop i xs)) ≡ sets (set (set m (at + i * 2) a) (at + i * 2 + 1) b) (at + (i + 1) * 2) (hexOf (drop (i + 1) xs))
+unfolding hexOf
+spell-turn m xs at i a b h p q =
+    let e : at + (i + 1) * 2 ≡ at + i * 2 + 2 = omega arith in
+    rw (drop-cons xs i 0 h, ← p, ← q, e, add-one (at + i * 2), add-two (at + i * 2), add-one i)
+
+pub spell-end : (m m₀ xs : List ℕ) (at i : ℕ) → length xs ≤ i → sets m (at + i * 2) (hexOf (drop i xs)) ≡ sets m₀ at (hexOf xs) → at + length xs * 2 ≤ length m₀ → m ≡ put at (hexOf xs) m₀
+unfolding hexOf
+spell-end m m₀ xs at i h e room =
+    let r : at + length (hexOf xs) ≤ length m₀ = rw (hex-length xs) room in
+    let d : drop i xs ≡ [] = drop-of-length-le xs h in
+    (rw d at e) ∙ sets-put (hexOf xs) m₀ at r
+
+-- a field that spells as many bytes as a list has replaces it
+pub read-over : (m ds : List ℕ) → length m ≤ length ds / 2 → put 0 (bytesOf ds) m ≡ bytesOf ds
+read-over m ds h = put-over (bytesOf ds) m (rw (bytes-length ds) h)

@@ -1,0 +1,2 @@
+pub mod OneDigit
+pub mod Fields

@@ -1,0 +1,124 @@
+-- Laws of a digit: what `valueOf` is in each range, and that value and digit undo each other. Assumes nothing.
+use mathlib.Core.Path.{_≡_, refl, ap, _∙_, sym}
+use mathlib.Core.Bool.{Bool, true, false, cond, _&&_}
+use Prim.Native.Nat.{ℕ, _+_, _-_, _*_, _/_, _%_, _≤_, _<_}
+use native.Mathlib.Omega.{arith}
+use lib.Dec.{leb, ltb}
+use borrow.Author.Tests.{le-leb, lt-leb, lt-ltb, le-ltb}
+use Rattle.laws.proofs.Split.{by-lt}
+use Rattle.hex.specs.Hex.{valueOf, digitOf, byteOf}
+
+and-false : (x : Bool) → (x && false) ≡ false
+and-false true = refl
+and-false false = refl
+
+pub value-low : (d : ℕ) → 48 ≤ d → d < 58 → valueOf d ≡ d - 48
+unfolding valueOf
+value-low d h k =
+    let n : d ≤ 57 = omega arith in
+    rw (le-leb 48 d h, le-leb d 57 n)
+
+pub value-high : (d : ℕ) → 65 ≤ d → d < 71 → valueOf d ≡ d - 55
+unfolding valueOf
+value-high d h k =
+    let n : 57 < d = omega arith in
+    let m : d ≤ 70 = omega arith in
+    rw (lt-leb d 57 n, and-false (leb 48 d), le-leb 65 d h, le-leb d 70 m)
+
+pub value-below : (d : ℕ) → d < 48 → valueOf d ≡ 16
+unfolding valueOf
+value-below d h =
+    let n : d < 65 = omega arith in
+    rw (lt-leb 48 d h, lt-leb 65 d n)
+
+pub value-between : (d : ℕ) → 58 ≤ d → d < 65 → valueOf d ≡ 16
+unfolding valueOf
+value-between d h k = rw (lt-leb d 57 h, and-false (leb 48 d), lt-leb 65 d k)
+
+pub value-above : (d : ℕ) → 71 ≤ d → valueOf d ≡ 16
+unfolding valueOf
+value-above d h =
+    let n : 57 < d = omega arith in
+    rw (lt-leb d 57 n, and-false (leb 48 d), lt-leb d 70 h, and-false (leb 65 d))
+
+pub digit-low : (x : ℕ) → x % 16 < 10 → digitOf x ≡ x % 16 + 48
+unfolding digitOf
+digit-low x h = rw (lt-ltb (x % 16) 10 h)
+
+pub digit-high : (x : ℕ) → 10 ≤ x % 16 → digitOf x ≡ x % 16 + 55
+unfolding digitOf
+digit-high x h = rw (le-ltb (x % 16) 10 h)
+
+pub value-digit : (x : ℕ) → valueOf (digitOf x) ≡ x % 16
+value-digit x =
+    by-lt (x % 16) 10
+    (λ h.
+    let a : 48 ≤ x % 16 + 48 = omega arith in
+    let b : x % 16 + 48 < 58 = omega arith in
+    let e : x % 16 + 48 - 48 ≡ x % 16 = omega arith in
+    ap valueOf (digit-low x h) ∙ value-low (x % 16 + 48) a b ∙ e)
+    (λ h.
+    let a : 65 ≤ x % 16 + 55 = omega arith in
+    let b : x % 16 + 55 < 71 = omega arith in
+    let e : x % 16 + 55 - 55 ≡ x % 16 = omega arith in
+    ap valueOf (digit-high x h) ∙ value-high (x % 16 + 55) a b ∙ e)
+
+-- a digit is the capital digit of its value
+pub digit-value : (d : ℕ) → valueOf d < 16 → digitOf (valueOf d) ≡ d
+digit-value d v =
+    by-lt d 58
+    (λ h.
+    by-lt d 48
+    (λ l. let e : valueOf d ≡ 16 = value-below d l in absurd (omega arith))
+    (λ l.
+    let e : valueOf d ≡ d - 48 = value-low d l h in
+    let s : (d - 48) % 16 < 10 = omega arith in
+    let t : (d - 48) % 16 + 48 ≡ d = omega arith in
+    ap digitOf e ∙ digit-low (d - 48) s ∙ t))
+    (λ h.
+    by-lt d 65
+    (λ l. let e : valueOf d ≡ 16 = value-between d h l in absurd (omega arith))
+    (λ l.
+    by-lt d 71
+    (λ m.
+    let e : valueOf d ≡ d - 55 = value-high d l m in
+    let s : 10 ≤ (d - 55) % 16 = omega arith in
+    let t : (d - 55) % 16 + 55 ≡ d = omega arith in
+    ap digitOf e ∙ digit-high (d - 55) s ∙ t)
+    (λ m. let e : valueOf d ≡ 16 = value-above d m in absurd (omega arith))))
+
+-- no digit is a byte below 48: not a tab, not LF, not the 0 that stands for what is past the end
+pub digit-above : (x : ℕ) → 48 ≤ digitOf x
+digit-above x =
+    by-lt (x % 16) 10
+    (λ h. let e : digitOf x ≡ x % 16 + 48 = digit-low x h in omega arith)
+    (λ h. let e : digitOf x ≡ x % 16 + 55 = digit-high x h in omega arith)
+
+-- the digit of a number is that of its low half
+pub digit-mod : (x : ℕ) → digitOf (x % 16) ≡ digitOf x
+unfolding digitOf
+digit-mod x =
+    let e : x % 16 % 16 ≡ x % 16 = omega arith in
+    rw e
+
+pub byte-digits : (x : ℕ) → x < 256 → byteOf (digitOf (x / 16)) (digitOf x) ≡ x
+unfolding byteOf
+byte-digits x h =
+    let e : x / 16 % 16 % 16 * 16 + x % 16 % 16 ≡ x = omega arith in
+    rw (value-digit (x / 16), value-digit x) e
+
+pub byte-high : (d e : ℕ) → valueOf d < 16 → valueOf e < 16 → digitOf (byteOf d e / 16) ≡ d
+unfolding byteOf
+byte-high d e h k =
+    let q : (valueOf d % 16 * 16 + valueOf e % 16) / 16 ≡ valueOf d = omega arith in
+    ap digitOf q ∙ digit-value d h
+
+pub byte-low : (d e : ℕ) → valueOf d < 16 → valueOf e < 16 → digitOf (byteOf d e) ≡ e
+unfolding byteOf
+byte-low d e h k =
+    let q : (valueOf d % 16 * 16 + valueOf e % 16) % 16 ≡ valueOf e = omega arith in
+    sym (digit-mod (valueOf d % 16 * 16 + valueOf e % 16)) ∙ ap digitOf q ∙ digit-value e k
+
+pub byte-small : (d e : ℕ) → byteOf d e < 256
+unfolding byteOf
+byte-small d e = omega arith

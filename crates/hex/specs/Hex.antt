@@ -1,0 +1,38 @@
+-- Hexadecimal digits and fields. Document 01, "Job text". Assumes nothing.
+use mathlib.Core.Bool.{Bool, true, cond, _&&_}
+use mathlib.Core.List.{List, [], _∷_}
+use Prim.Native.Nat.{ℕ, _+_, _-_, _*_, _/_, _%_}
+use lib.Dec.{leb, ltb}
+
+-- "Upper case only": the value of a digit, and 16 for any other byte. No other definition says which bytes are digits.
+unfoldable pub valueOf : ℕ → ℕ
+valueOf d = cond (leb 48 d && leb d 57) (d - 48) (cond (leb 65 d && leb d 70) (d - 55) 16)
+
+-- the digit of the low half of a byte
+unfoldable pub digitOf : ℕ → ℕ
+digitOf x = cond (ltb (x % 16) 10) (x % 16 + 48) (x % 16 + 55)
+
+-- the byte that two digits spell; what is no digit counts as 0
+unfoldable pub byteOf : ℕ → ℕ → ℕ
+byteOf high low = valueOf high % 16 * 16 + valueOf low % 16
+
+-- every byte of a field is a digit
+unfoldable pub allDigits : List ℕ → Bool
+allDigits [] = true
+allDigits (d ∷ ds) = ltb (valueOf d) 16 && allDigits ds
+
+-- the bytes that a field spells, two digits a byte
+unfoldable pub bytesOf : List ℕ → List ℕ
+bytesOf [] = []
+bytesOf (d ∷ []) = []
+bytesOf (d ∷ e ∷ ds) = byteOf d e ∷ bytesOf ds
+
+-- the field that spells some bytes
+unfoldable pub hexOf : List ℕ → List ℕ
+hexOf [] = []
+hexOf (x ∷ xs) = digitOf (x / 16) ∷ digitOf x ∷ hexOf xs
+
+-- each is a byte: what a field can spell
+unfoldable pub allBytes : List ℕ → Bool
+allBytes [] = true
+allBytes (x ∷ xs) = ltb x 256 && allBytes xs

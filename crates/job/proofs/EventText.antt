@@ -1,0 +1,191 @@
+-- Events and their text: each gives the other back, and the number of the first malformed line. Assumes nothing.
+use mathlib.Core.Path.{_≡_, refl, ap, ap₂, _∙_, sym}
+use mathlib.Core.Bool.{Bool, true, false, cond, _&&_, true≢false}
+use mathlib.Core.List.{List, [], _∷_, _++_, append-assoc}
+use Prim.Native.Nat.{ℕ, zero, suc, _+_, _-_, _*_, _≤_, _<_}
+use native.Mathlib.Omega.{arith}
+use native.Mathlib.Nat.{not-suc-le-zero, le-of-suc-le-suc}
+use lib.Dec.{eqb}
+use lib.ListN.{length, take, drop, getD, length-append, take-append-drop}
+use lib.Seq.{length-take-le, drop-append-seam}
+use borrow.Author.Tests.{eq-eqb, ne-eqb}
+use Rattle.laws.proofs.Split.{by-bool, by-eq, and-true}
+use Rattle.request.specs.Setup.{fitsOf}
+use Rattle.hex.specs.Hex.{bytesOf, allBytes}
+use Rattle.hex.proofs.Fields.{bytes-are}
+use Rattle.job.specs.Event.{Event, attach, request, fits, inBytes, proper, lineOf, textOf, same}
+use Rattle.job.specs.Text.{firstLine, onto, linesOf, eventOf, wellFormed, badFrom, firstBad, eventsIn, eventsOf}
+use Rattle.job.proofs.Spelling.{spelled}
+use Rattle.job.proofs.FirstLine.{same-eq, first-spelled, lines-first, joined}
+use Rattle.job.proofs.Formed.{fits-long, bytes-append, bytes-take, bytes-drop, event-spelled, formed-spelled}
+
+-- the line of an event that fits gives the event back
+module _ (q : List ℕ) (f : fitsOf q ≡ true) (y : allBytes q ≡ true) where
+  halves : take 8 q ++ drop 8 q ≡ q
+  halves = take-append-drop 8 q
+
+  request-event : eventOf (lineOf (request q)) ≡ request q
+  unfolding lineOf
+  request-event = event-spelled (take 8 q) (drop 8 q) (length-take-le 8 q (fits-long q f)) (bytes-take 8 q y) (bytes-drop 8 q y) ∙ ap request halves
+
+  request-formed : wellFormed (lineOf (request q)) ≡ true
+  unfolding lineOf
+  request-formed =
+      formed-spelled (take 8 q) (drop 8 q) (length-take-le 8 q (fits-long q f)) (bytes-take 8 q y) (bytes-drop 8 q y) (ap fitsOf halves ∙ f)
+
+pub line-event : (e : Event) → fits e ≡ true → inBytes e ≡ true → eventOf (lineOf e) ≡ e
+unfolding fits inBytes eventOf lineOf
+line-event attach f y = refl
+line-event (request q) f y = request-event q f y
+
+pub line-formed : (e : Event) → fits e ≡ true → inBytes e ≡ true → wellFormed (lineOf e) ≡ true
+unfolding fits inBytes wellFormed eventOf lineOf same
+line-formed attach f y = refl
+line-formed (request q) f y = request-formed q f y
+
+-- the line of an event is the first line of a text that begins with it
+pub line-first : (e : Event) (s : List ℕ) → firstLine (lineOf e ++ s) ≡ lineOf e
+unfolding lineOf firstLine
+line-first attach s = refl
+line-first (request q) s =
+    let e : spelled (take 8 q) (drop 8 q) [] ++ s ≡ spelled (take 8 q) (drop 8 q) s = simp append-assoc in
+    ap firstLine e ∙ first-spelled (take 8 q) (drop 8 q) s
+
+pub line-some : (e : Event) → 0 < length (lineOf e)
+unfolding lineOf
+line-some attach = omega arith
+line-some (request q) = omega arith
+
+pub lines-line : (e : Event) (s : List ℕ) → linesOf (lineOf e ++ s) ≡ lineOf e ∷ linesOf s
+lines-line e s =
+    let k : 0 < length (lineOf e ++ s) = let h = line-some e in rw (length-append (lineOf e) s) (omega arith) in
+    let f : firstLine (lineOf e ++ s) ≡ lineOf e = line-first e s in
+    lines-first (lineOf e ++ s) k
+    ∙ ap₂ _∷_ f (ap linesOf (ap (λ (l : List ℕ). drop (length l) (lineOf e ++ s)) f ∙ drop-append-seam (lineOf e) s))
+
+-- the text of proper events has no malformed line, and gives them back
+pub proper-parts : (e : Event) (es : List Event) → proper (e ∷ es) ≡ true → (fits e ≡ true) × (inBytes e ≡ true) × (proper es ≡ true)
+unfolding proper
+proper-parts e es h =
+    let p = and-true (fits e && inBytes e) (proper es) h in
+    let q = and-true (fits e) (inBytes e) (p .0) in
+    (q .0, q .1, p .1)
+
+pub text-good : (es : List Event) (k : ℕ) → proper es ≡ true → badFrom k (linesOf (textOf es)) ≡ 0
+unfolding textOf badFrom linesOf
+text-good [] k h = refl
+text-good (e ∷ es) k h =
+    let p = proper-parts e es h in
+    rw (lines-line e (textOf es), line-formed e (p .0) (p .1)) (text-good es (suc k) (p .2))
+
+pub text-events : (es : List Event) → proper es ≡ true → eventsOf (textOf es) ≡ es
+unfolding textOf eventsOf eventsIn linesOf
+text-events [] h = refl
+text-events (e ∷ es) h =
+    let p = proper-parts e es h in
+    rw (lines-line e (textOf es), line-event e (p .0) (p .1)) (ap (λ (fs : List Event). e ∷ fs) (text-events es (p .2)))
+
+joined-onto : (x : ℕ) (ls : List (List ℕ)) → joined (onto x ls) ≡ x ∷ joined ls
+unfolding joined onto
+joined-onto x [] = refl
+joined-onto x (l ∷ ls) = refl
+
+joined-lines : (t : List ℕ) → joined (linesOf t) ≡ t
+unfolding joined linesOf
+joined-lines [] = refl
+joined-lines (x ∷ t) =
+    by-bool (eqb x 10)
+    (λ e. rw e (ap (λ (l : List ℕ). x ∷ l) (joined-lines t)))
+    (λ e. rw e (joined-onto x (linesOf t) ∙ ap (λ (l : List ℕ). x ∷ l) (joined-lines t)))
+
+-- a well-formed line is the line of its event, which is proper
+pub formed-line : (l : List ℕ) → wellFormed l ≡ true → lineOf (eventOf l) ≡ l
+unfolding wellFormed
+formed-line l h = sym (same-eq l (lineOf (eventOf l)) (and-true (fits (eventOf l)) (same l (lineOf (eventOf l))) h .1))
+
+pub formed-fits : (l : List ℕ) → wellFormed l ≡ true → fits (eventOf l) ≡ true
+unfolding wellFormed
+formed-fits l h = and-true (fits (eventOf l)) (same l (lineOf (eventOf l))) h .0
+
+pub event-bytes : (l : List ℕ) → inBytes (eventOf l) ≡ true
+unfolding inBytes eventOf
+event-bytes l =
+    by-bool (eqb (getD l 0 0) 65)
+    (λ e. rw e)
+    (λ e. rw e (bytes-append (bytesOf (take 16 (drop 2 l))) (bytesOf (take (length l - 20) (drop 19 l))) (bytes-are (take 16 (drop 2 l))) (bytes-are (take (length l - 20) (drop 19 l)))))
+
+-- lines none of which is malformed: the first is well formed, and so are the others
+pub good-first : (l : List ℕ) (ls : List (List ℕ)) (k : ℕ) → badFrom (suc k) (l ∷ ls) ≡ 0 → (wellFormed l ≡ true) × (badFrom (suc (suc k)) ls ≡ 0)
+unfolding badFrom
+good-first l ls k h =
+    by-bool (wellFormed l)
+    (λ e. (e, rw e at h))
+    (λ e. let z : suc k ≡ 0 = rw e at h in absurd (omega arith))
+
+lines-text : (ls : List (List ℕ)) (k : ℕ) → badFrom (suc k) ls ≡ 0 → textOf (eventsIn ls) ≡ joined ls
+unfolding textOf eventsIn joined
+lines-text [] k h = refl
+lines-text (l ∷ ls) k h =
+    let p = good-first l ls k h in
+    ap₂ _++_ (formed-line l (p .0)) (lines-text ls (suc k) (p .1))
+
+lines-proper : (ls : List (List ℕ)) (k : ℕ) → badFrom (suc k) ls ≡ 0 → proper (eventsIn ls) ≡ true
+unfolding proper eventsIn
+lines-proper [] k h = refl
+lines-proper (l ∷ ls) k h =
+    let p = good-first l ls k h in
+    rw (formed-fits l (p .0), event-bytes l, lines-proper ls (suc k) (p .1))
+
+pub good-text : (t : List ℕ) → firstBad t ≡ 0 → textOf (eventsOf t) ≡ t
+unfolding firstBad eventsOf
+good-text t h = lines-text (linesOf t) 0 h ∙ joined-lines t
+
+pub good-proper : (t : List ℕ) → firstBad t ≡ 0 → proper (eventsOf t) ≡ true
+unfolding firstBad eventsOf
+good-proper t h = lines-proper (linesOf t) 0 h
+
+-- whether there is a malformed line does not depend on the number that lines are counted from
+pub bad-none : (ls : List (List ℕ)) (j k : ℕ) → badFrom (suc j) ls ≡ 0 → badFrom (suc k) ls ≡ 0
+unfolding badFrom
+bad-none [] j k h = refl
+bad-none (l ∷ ls) j k h =
+    let p = good-first l ls j h in
+    rw (p .0) (bad-none ls (suc j) (suc k) (p .1))
+
+-- the line named is malformed, and each before it is well formed
+pub record Names (ls : List (List ℕ)) (i : ℕ) : Type 0 where
+  pub within : i < length ls
+  pub malformed : wellFormed (getD ls i []) ≡ false
+  pub before : (j : ℕ) → j < i → wellFormed (getD ls j []) ≡ true
+
+pub bad-names : (ls : List (List ℕ)) (k m : ℕ) → badFrom (suc k) ls ≡ suc m → (k ≤ m) × Names ls (m - k)
+unfolding badFrom
+bad-names [] k m h = absurd (omega arith)
+bad-names (l ∷ ls) k m h =
+    by-bool (wellFormed l)
+    (λ e.
+    let p = bad-names ls (suc k) m (rw e at h) in
+    let c : k ≤ m = let q = p .0 in omega arith in
+    let d : m - k ≡ suc (m - suc k) = let q = p .0 in omega arith in (
+      c,
+      rw d
+          (record {
+            within = let w = p .1 .within in omega arith;
+            malformed = p .1 .malformed;
+            before = later e (m - suc k) (p .1 .before);
+          }),
+    ))
+    (λ e.
+    let z : suc k ≡ suc m = rw e at h in
+    let c : k ≤ m = omega arith in
+    let d : m - k ≡ 0 = omega arith in
+    (c, rw d (record { within = omega arith; malformed = e; before = λ j w. absurd (not-suc-le-zero w) })))
+  where
+    later : wellFormed l ≡ true → (i : ℕ) → ((j : ℕ) → j < i → wellFormed (getD ls j []) ≡ true) → (j : ℕ) → j < suc i → wellFormed (getD (l ∷ ls) j []) ≡ true
+    later e i g zero w = e
+    later e i g (suc j) w = g j (le-of-suc-le-suc w)
+
+pub named-from-one : (ls : List (List ℕ)) (i : ℕ) → badFrom 1 ls ≡ suc i → Names ls i
+named-from-one ls i e =
+    let z : i - 0 ≡ i = omega arith in
+    rw z at (bad-names ls 0 i e .1)

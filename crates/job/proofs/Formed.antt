@@ -1,0 +1,156 @@
+-- When the first line of a text is well formed, and which event it spells. Assumes nothing.
+use mathlib.Core.Path.{_≡_, refl, ap, ap₂, _∙_, sym}
+use mathlib.Core.Bool.{Bool, true, false, cond, _&&_, true≢false, false≢true}
+use mathlib.Core.List.{List, [], _∷_, _++_, append-assoc, append-nil}
+use Prim.Native.Nat.{ℕ, zero, suc, _+_, _-_, _*_, _/_, _≤_, _<_}
+use native.Mathlib.Omega.{arith}
+use lib.Dec.{eqb, ltb, leb}
+use lib.ListN.{length, take, drop, getD, length-append, length-drop, take-append-drop, List·getD-append}
+use lib.Seq.{length-take-le, take-at, drop-at}
+use borrow.Author.Tests.{eqb-true, leb-true, lt-ltb, ltb-true, eq-eqb, ne-eqb, le-leb}
+use Rattle.laws.proofs.Split.{by-bool, by-eq, and-true}
+use Rattle.request.specs.Setup.{setupOf, dataLength, fitsOf}
+use Rattle.hex.specs.Hex.{hexOf, bytesOf, allDigits, allBytes}
+use Rattle.hex.proofs.Fields.{bytes-are, bytes-hex, bytes-length}
+use Rattle.job.specs.Event.{Event, attach, request, fits, inBytes, lineOf, same}
+use Rattle.job.specs.Text.{firstLine, eventOf, wellFormed}
+use Rattle.job.proofs.Spelling.{spelled, Spelled, spelled-facts, is-spelled}
+use Rattle.job.proofs.FirstLine.{same-refl, same-eq, first-rest, first-kind, first-spelled, first-attach}
+
+-- a request that fits has its setup, and the data that the setup asks for
+pub fits-long : (q : List ℕ) → fitsOf q ≡ true → 8 ≤ length q
+unfolding fitsOf
+fits-long q h = leb-true 8 (length q) (and-true (leb 8 (length q)) (eqb (length q) (8 + dataLength (setupOf q))) h .0)
+
+pub fits-data : (q : List ℕ) → fitsOf q ≡ true → length q ≡ 8 + dataLength (setupOf q)
+unfolding fitsOf
+fits-data q h = eqb-true (length q) (8 + dataLength (setupOf q)) (and-true (leb 8 (length q)) (eqb (length q) (8 + dataLength (setupOf q))) h .1)
+
+pub fits-if : (q : List ℕ) → 8 ≤ length q → length q ≡ 8 + dataLength (setupOf q) → fitsOf q ≡ true
+unfolding fitsOf
+fits-if q h e = rw (le-leb 8 (length q) h, eq-eqb (length q) (8 + dataLength (setupOf q)) e)
+
+-- the setup is in the first eight bytes
+pub setup-front : (a b : List ℕ) → 8 ≤ length a → setupOf (a ++ b) ≡ setupOf a
+unfolding setupOf
+setup-front a b h =
+    let g : (i : ℕ) → i < 8 → getD (a ++ b) i 0 ≡ getD a i 0 = λ i k. List·getD-append a b 0 i (omega arith) in
+    rw (g 0 (omega arith), g 1 (omega arith), g 2 (omega arith), g 3 (omega arith), g 4 (omega arith), g 5 (omega arith), g 6 (omega arith), g 7 (omega arith))
+
+pub bytes-append : (xs ys : List ℕ) → allBytes xs ≡ true → allBytes ys ≡ true → allBytes (xs ++ ys) ≡ true
+unfolding allBytes
+bytes-append [] ys h k = k
+bytes-append (x ∷ xs) ys h k =
+    let p = and-true (ltb x 256) (allBytes xs) h in
+    rw (p .0, bytes-append xs ys (p .1) k)
+
+pub bytes-apart : (xs ys : List ℕ) → allBytes (xs ++ ys) ≡ true → (allBytes xs ≡ true) × (allBytes ys ≡ true)
+unfolding allBytes
+bytes-apart [] ys h = (refl, h)
+bytes-apart (x ∷ xs) ys h =
+    let p = and-true (ltb x 256) (allBytes (xs ++ ys)) h in
+    let q = bytes-apart xs ys (p .1) in
+    (rw (p .0, q .0), q .1)
+
+pub bytes-take : (n : ℕ) (xs : List ℕ) → allBytes xs ≡ true → allBytes (take n xs) ≡ true
+unfolding allBytes
+bytes-take zero xs h = refl
+bytes-take (suc n) [] h = refl
+bytes-take (suc n) (x ∷ xs) h =
+    let p = and-true (ltb x 256) (allBytes xs) h in
+    rw (p .0, bytes-take n xs (p .1))
+
+pub bytes-drop : (n : ℕ) (xs : List ℕ) → allBytes xs ≡ true → allBytes (drop n xs) ≡ true
+unfolding allBytes
+bytes-drop zero xs h = h
+bytes-drop (suc n) [] h = refl
+bytes-drop (suc n) (x ∷ xs) h = bytes-drop n xs (and-true (ltb x 256) (allBytes xs) h .1)
+
+-- a spelled line gives its event back, and is well formed where the event fits
+module _ (a b : List ℕ) (la : length a ≡ 8) (ha : allBytes a ≡ true) (hb : allBytes b ≡ true) where
+  pub event-spelled : eventOf (spelled a b []) ≡ request (a ++ b)
+  unfolding eventOf
+  event-spelled =
+      let f = spelled-facts a b [] la in
+      let z = f .size in
+      let k : length (spelled a b []) - 20 ≡ length b * 2 = omega arith in
+      ap request
+      (ap₂ _++_ (ap bytesOf (f .setup) ∙ bytes-hex a ha)
+      (ap bytesOf (ap (λ (n : ℕ). take n (drop 19 (spelled a b []))) k ∙ f .body) ∙ bytes-hex b hb))
+
+  pub line-spelled : lineOf (request (a ++ b)) ≡ spelled a b []
+  unfolding lineOf
+  line-spelled = ap₂ (λ (x : List ℕ) (y : List ℕ). spelled x y []) (take-at a b 8 la) (drop-at a b 8 la)
+
+  pub formed-spelled : fitsOf (a ++ b) ≡ true → wellFormed (spelled a b []) ≡ true
+  unfolding wellFormed fits
+  formed-spelled h = rw (event-spelled, h, line-spelled) (same-refl (spelled a b []))
+
+-- the first line of u is well formed, and spells a request: of setup a and data b, with r after it
+pub record Asks (u : List ℕ) : Type 0 where
+  pub a : List ℕ
+  pub b : List ℕ
+  pub r : List ℕ
+  pub whole : length a ≡ 8
+  pub fit : fitsOf (a ++ b) ≡ true
+  pub inA : allBytes a ≡ true
+  pub inB : allBytes b ≡ true
+  pub is : u ≡ spelled a b r
+
+pub asks-facts : {u : List ℕ} → (x : Asks u) → Spelled u (x .a) (x .b) (x .r)
+asks-facts {u} x = rw (x .is) (spelled-facts (x .a) (x .b) (x .r) (x .whole))
+
+pub asks-first : {u : List ℕ} → (x : Asks u) → firstLine u ≡ spelled (x .a) (x .b) []
+asks-first x = ap firstLine (x .is) ∙ first-spelled (x .a) (x .b) (x .r)
+
+pub asks-event : {u : List ℕ} → (x : Asks u) → eventOf (firstLine u) ≡ request (x .a ++ x .b)
+asks-event x = ap eventOf (asks-first x) ∙ event-spelled (x .a) (x .b) (x .whole) (x .inA) (x .inB)
+
+pub asks-formed : {u : List ℕ} → (x : Asks u) → wellFormed (firstLine u) ≡ true
+asks-formed x = ap wellFormed (asks-first x) ∙ formed-spelled (x .a) (x .b) (x .whole) (x .inA) (x .inB) (x .fit)
+
+pub asks-length : {u : List ℕ} → (x : Asks u) → length (firstLine u) ≡ 20 + length (x .b) * 2
+asks-length x =
+    let f = spelled-facts (x .a) (x .b) [] (x .whole) in
+    let z = f .size in
+    ap length (asks-first x) ∙ z ∙ (let e : 20 + length (x .b) * 2 + 0 ≡ 20 + length (x .b) * 2 = omega arith in e)
+
+pub asks-setup : {u : List ℕ} → (x : Asks u) → bytesOf (take 16 (drop 2 u)) ≡ x .a
+asks-setup x = ap bytesOf (asks-facts x .setup) ∙ bytes-hex (x .a) (x .inA)
+
+pub asks-data : {u : List ℕ} → (x : Asks u) → dataLength (setupOf (x .a)) ≡ length (x .b)
+asks-data x =
+    let h : 8 ≤ length (x .a) = let w = x .whole in omega arith in
+    let e : length (x .a ++ x .b) ≡ 8 + dataLength (setupOf (x .a)) = fits-data (x .a ++ x .b) (x .fit) ∙ ap (λ s. 8 + dataLength s) (setup-front (x .a) (x .b) h) in
+    let l : length (x .a ++ x .b) ≡ length (x .a) + length (x .b) = length-append (x .a) (x .b) in
+    let w = x .whole in
+    omega arith
+
+-- the event that a line of another kind than `A` spells
+event-request : (l : List ℕ) → (getD l 0 0 ≡ 65 → ⊥) → eventOf l ≡ request (bytesOf (take 16 (drop 2 l)) ++ bytesOf (take (length l - 20) (drop 19 l)))
+unfolding eventOf
+event-request l n = rw (ne-eqb (getD l 0 0) 65 n)
+
+pub asks : (u : List ℕ) → wellFormed (firstLine u) ≡ true → (getD u 0 0 ≡ 65 → ⊥) → Asks u
+unfolding wellFormed fits lineOf
+asks u h n =
+    let l = firstLine u in
+    let q = bytesOf (take 16 (drop 2 l)) ++ bytesOf (take (length l - 20) (drop 19 l)) in
+    let e : eventOf l ≡ request q = event-request l (λ k. n (sym (first-kind u) ∙ k)) in
+    let p = and-true (fits (eventOf l)) (same l (lineOf (eventOf l))) h in
+    let f : fitsOf q ≡ true = ap fits (sym e) ∙ p .0 in
+    let s : l ≡ spelled (take 8 q) (drop 8 q) [] = same-eq l (lineOf (eventOf l)) (p .1) ∙ ap lineOf e in
+    let w : 8 ≤ length q = fits-long q f in
+    let t : take 8 q ++ drop 8 q ≡ q = take-append-drop 8 q in
+    let y : allBytes q ≡ true = bytes-append (bytesOf (take 16 (drop 2 l))) (bytesOf (take (length l - 20) (drop 19 l))) (bytes-are (take 16 (drop 2 l))) (bytes-are (take (length l - 20) (drop 19 l))) in
+    let r = drop (length l) u in
+    record {
+      a = take 8 q;
+      b = drop 8 q;
+      r = r;
+      whole = length-take-le 8 q w;
+      fit = ap fitsOf t ∙ f;
+      inA = bytes-take 8 q y;
+      inB = bytes-drop 8 q y;
+      is = sym (first-rest u) ∙ ap (λ (x : List ℕ). x ++ r) s ∙ simp append-assoc;
+    }

@@ -1,0 +1,16 @@
+pub mod Spelling
+pub mod FirstLine
+pub mod Formed
+pub mod LineLength
+pub mod Walking
+pub mod Packing
+pub mod PieceLength
+pub mod EventText
+pub mod EventPacked
+pub mod PackLoop
+pub mod SpellSize
+pub mod SpellLine
+pub mod SpellLoop
+pub mod WalkEvents
+pub mod Answers
+pub mod Theorems

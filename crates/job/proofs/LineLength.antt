@@ -1,0 +1,154 @@
+-- The length of the first line by the tests that decide it. Assumes nothing.
+use mathlib.Core.Path.{_≡_, refl, ap, ap₂, _∙_, sym, subst}
+use mathlib.Core.Bool.{Bool, true, false, cond, _&&_, true≢false}
+use mathlib.Core.List.{List, [], _∷_, _++_}
+use Prim.Native.Nat.{ℕ, zero, suc, _+_, _-_, _*_, _/_, _%_, _≤_, _<_}
+use native.Mathlib.Omega.{arith}
+use lib.Dec.{eqb}
+use lib.ListN.{length, take, drop, getD, length-append, length-drop}
+use lib.Seq.{length-take-le}
+use borrow.Author.Tests.{eq-eqb}
+use Rattle.laws.proofs.Split.{by-bool, and-true}
+use Rattle.request.specs.Setup.{setupOf, dataLength, fitsOf}
+use Rattle.hex.specs.Hex.{hexOf, bytesOf, allDigits, allBytes}
+use Rattle.hex.proofs.Fields.{bytes-are, bytes-length, digits-hex}
+use Rattle.job.specs.Event.{Event, attach, request, fits, lineOf, same}
+use Rattle.job.specs.Text.{firstLine, eventOf, wellFormed, lineLength}
+use Rattle.job.proofs.Spelling.{spelled, is-spelled}
+use Rattle.job.proofs.FirstLine.{same-refl, same-eq, first-rest, first-kind, first-length, first-attach}
+use Rattle.job.proofs.Formed.{fits-if, setup-front, Asks, asks, asks-facts, asks-formed, asks-length, asks-setup, asks-data}
+
+pub length-good : (u : List ℕ) → wellFormed (firstLine u) ≡ true → lineLength u ≡ length (firstLine u)
+unfolding lineLength
+length-good u h = rw h
+
+pub length-bad : (u : List ℕ) → wellFormed (firstLine u) ≡ false → 0 ≡ lineLength u
+unfolding lineLength
+length-bad u h = rw h
+
+length-within : (u : List ℕ) (n : ℕ) → n ≡ lineLength u → n ≤ length u
+length-within u n e =
+    by-bool (wellFormed (firstLine u))
+    (λ h. let l : lineLength u ≡ length (firstLine u) = length-good u h in let w = first-length u in omega arith)
+    (λ h. let l : 0 ≡ lineLength u = length-bad u h in omega arith)
+
+pub length-and-bound : (u : List ℕ) (n : ℕ) → n ≡ lineLength u → (n ≡ lineLength u) × (n ≤ length u)
+length-and-bound u n e = (e, length-within u n e)
+
+-- a line of `A`
+event-attach : (l : List ℕ) → getD l 0 0 ≡ 65 → eventOf l ≡ attach
+unfolding eventOf
+event-attach l k = rw (eq-eqb (getD l 0 0) 65 k)
+
+-- the first line is well formed and spells Attach
+pub record Attaches (u : List ℕ) : Type 0 where
+  pub first : firstLine u ≡ 65 ∷ 10 ∷ []
+  pub event : eventOf (firstLine u) ≡ attach
+  pub is : u ≡ 65 ∷ 10 ∷ drop 2 u
+
+pub attaches : (u : List ℕ) → wellFormed (firstLine u) ≡ true → getD u 0 0 ≡ 65 → Attaches u
+unfolding wellFormed lineOf
+attaches u h k =
+    let l = firstLine u in
+    let e : eventOf l ≡ attach = event-attach l (first-kind u ∙ k) in
+    let p = and-true (fits (eventOf l)) (same l (lineOf (eventOf l))) h in
+    let s : l ≡ 65 ∷ 10 ∷ [] = same-eq l (lineOf (eventOf l)) (p .1) ∙ ap lineOf e in
+    let i : u ≡ 65 ∷ 10 ∷ drop (length l) u = sym (first-rest u) ∙ ap (λ (x : List ℕ). x ++ drop (length l) u) s in
+    record { first = s; event = e; is = i ∙ ap (λ (n : ℕ). 65 ∷ 10 ∷ drop n u) (ap length s) }
+
+pub attach-formed : (u : List ℕ) → getD u 0 0 ≡ 65 → getD u 1 0 ≡ 10 → wellFormed (firstLine u) ≡ true
+unfolding wellFormed fits lineOf
+attach-formed [] k e = absurd (omega arith)
+attach-formed (x ∷ []) k e = absurd (omega arith)
+attach-formed (x ∷ y ∷ r) k e =
+    let s : firstLine (x ∷ y ∷ r) ≡ 65 ∷ 10 ∷ [] = ap₂ (λ (m : ℕ) (n : ℕ). firstLine (m ∷ n ∷ r)) k e ∙ first-attach r in
+    let i : eventOf (65 ∷ 10 ∷ []) ≡ attach = event-attach (65 ∷ 10 ∷ []) refl in
+    rw (s, i) (same-refl (65 ∷ 10 ∷ []))
+
+pub attach-line : (u : List ℕ) → getD u 0 0 ≡ 65 → getD u 1 0 ≡ 10 → 2 ≡ lineLength u
+attach-line u k e =
+    let h = attach-formed u k e in
+    sym (length-good u h ∙ ap length (attaches u h k .first))
+
+pub no-attach : (u : List ℕ) → getD u 0 0 ≡ 65 → (getD u 1 0 ≡ 10 → ⊥) → 0 ≡ lineLength u
+no-attach u k n =
+    by-bool (wellFormed (firstLine u))
+    (λ h. absurd (n (ap (λ (x : List ℕ). getD x 1 0) (attaches u h k .is))))
+    (length-bad u)
+
+pub other-kind : (u : List ℕ) → (getD u 0 0 ≡ 65 → ⊥) → (getD u 0 0 ≡ 81 → ⊥) → 0 ≡ lineLength u
+other-kind u m n =
+    by-bool (wellFormed (firstLine u))
+    (λ h. absurd (n (asks-facts (asks u h m) .kind)))
+    (length-bad u)
+
+-- a line of `Q`: what each test tells that fails
+module _ (u : List ℕ) (k : getD u 0 0 ≡ 81) where
+  no-request : (Asks u → ⊥) → 0 ≡ lineLength u
+  no-request n = by-bool (wellFormed (firstLine u)) (λ h. absurd (n (asks u h (λ z. omega arith)))) (length-bad u)
+
+  pub too-short : length u < 20 → 0 ≡ lineLength u
+  too-short h = no-request (λ x. let s = asks-facts x .size in omega arith)
+
+  pub no-tab : (getD u 1 0 ≡ 9 → ⊥) → 0 ≡ lineLength u
+  no-tab n = no-request (λ x. n (asks-facts x .first))
+
+  pub no-second-tab : (getD u 18 0 ≡ 9 → ⊥) → 0 ≡ lineLength u
+  no-second-tab n = no-request (λ x. n (asks-facts x .second))
+
+  pub no-setup : allDigits (take 16 (drop 2 u)) ≡ false → 0 ≡ lineLength u
+  no-setup e = no-request (λ x. true≢false (sym (ap allDigits (asks-facts x .setup) ∙ digits-hex (x .a)) ∙ e))
+
+  -- m bytes of data are asked for, and end is the place behind their digits
+  module _ (m end : ℕ) (asked : m ≡ dataLength (setupOf (bytesOf (take 16 (drop 2 u))))) (ends : end ≡ 19 + m * 2) where
+    asked-is : (x : Asks u) → m ≡ length (x .b)
+    asked-is x = asked ∙ ap (λ (l : List ℕ). dataLength (setupOf l)) (asks-setup x) ∙ asks-data x
+
+    pub data-short : (length u - 20) / 2 < m → 0 ≡ lineLength u
+    data-short h =
+        no-request
+        (λ x.
+        let e = asked-is x in
+        let s = asks-facts x .size in
+        omega arith)
+
+    pub no-end : (getD u end 0 ≡ 10 → ⊥) → 0 ≡ lineLength u
+    no-end d = no-request (λ x. d (ap (λ (i : ℕ). getD u i 0) (ends ∙ ap (λ (i : ℕ). 19 + i * 2) (asked-is x)) ∙ asks-facts x .stop))
+
+    pub no-data : allDigits (take (end - 19) (drop 19 u)) ≡ false → 0 ≡ lineLength u
+    no-data d =
+        no-request
+        (λ x.
+        let e : end - 19 ≡ length (x .b) * 2 = let z = asked-is x in omega arith in
+        true≢false (sym (ap (λ (i : ℕ). allDigits (take i (drop 19 u))) e ∙ ap allDigits (asks-facts x .body) ∙ digits-hex (x .b)) ∙ d))
+
+    -- and all of them together
+    pub request-line : 20 ≤ length u → getD u 1 0 ≡ 9 → getD u 18 0 ≡ 9 → allDigits (take 16 (drop 2 u)) ≡ true → m ≤ (length u - 20) / 2 → getD u end 0 ≡ 10 → allDigits (take (end - 19) (drop 19 u)) ≡ true → end + 1 ≡ lineLength u
+    request-line long f s p room t d =
+        let n = m * 2 in
+        let l : 16 ≤ length (drop 2 u) = simp length-drop (omega arith) in
+        let o : n ≤ length (drop 19 u) = simp length-drop (omega arith) in
+        let g : 20 + n ≤ length u = omega arith in
+        let e : end - 19 ≡ n = omega arith in
+        let even : n % 2 ≡ 0 = omega arith in
+        let a = bytesOf (take 16 (drop 2 u)) in
+        let b = bytesOf (take n (drop 19 u)) in
+        let la : length a ≡ 8 = bytes-length (take 16 (drop 2 u)) ∙ rw (length-take-le 16 (drop 2 u) l) in
+        let z : length b ≡ length (take n (drop 19 u)) / 2 = bytes-length (take n (drop 19 u)) in
+        let w : length (take n (drop 19 u)) ≡ n = length-take-le n (drop 19 u) o in
+        let la₈ : 8 ≤ length a = omega arith in
+        let sz : length (a ++ b) ≡ length a + length b = length-append a b in
+        let want : dataLength (setupOf (a ++ b)) ≡ dataLength (setupOf a) = ap dataLength (setup-front a b la₈) in
+        let x : Asks u =
+        record {
+          a = a;
+          b = b;
+          r = drop (20 + n) u;
+          whole = la;
+          fit = fits-if (a ++ b) (omega arith) (omega arith);
+          inA = bytes-are (take 16 (drop 2 u));
+          inB = bytes-are (take n (drop 19 u));
+          is = is-spelled u n g k f s (ap (λ (i : ℕ). getD u i 0) (sym ends) ∙ t) p (ap (λ (i : ℕ). allDigits (take i (drop 19 u))) (sym e) ∙ d) even;
+        } in
+        let q : 20 + length b * 2 ≡ end + 1 = omega arith in
+        sym (length-good u (asks-formed x) ∙ asks-length x ∙ q)

@@ -1,0 +1,94 @@
+-- One turn of the loop that packs a text, and its end. Assumes nothing.
+use mathlib.Core.Path.{_≡_, refl, ap, ap₂, _∙_, sym}
+use mathlib.Core.Bool.{true, false}
+use mathlib.Core.List.{List, [], _∷_, _++_}
+use Prim.Native.Nat.{ℕ, suc, _+_, _-_, _≤_, _<_}
+use native.Mathlib.Omega.{arith}
+use lib.ListN.{length, take, drop, length-append, length-drop, drop-of-length-le}
+use lib.Seq.{sets}
+use Rattle.laws.specs.Bytes.{put}
+use Rattle.laws.proofs.Bytes.{sets-put, rest-is}
+use Rattle.laws.proofs.Append.{sets-append}
+use Rattle.job.specs.Event.{packOf, packedOf}
+use Rattle.job.specs.Text.{firstLine, linesOf, eventOf, wellFormed, lineLength, packedSize, badFrom, firstBad, eventsIn, eventsOf}
+use Rattle.job.proofs.FirstLine.{first-some, first-length, lines-first}
+use Rattle.job.proofs.LineLength.{length-good}
+use Rattle.job.proofs.EventText.{good-first, bad-none}
+use Rattle.job.proofs.Walking.{size-packed, turn-good, turn-packed, turn-total}
+
+module _ (t : List ℕ) (at : ℕ) (more : at < length t) (good : firstBad (drop at t) ≡ 0) where
+  some : 0 < length (drop at t)
+  some = simp length-drop (omega arith)
+
+  formed : wellFormed (firstLine (drop at t)) ≡ true
+  unfolding firstBad
+  formed = good-first (firstLine (drop at t)) (linesOf (drop (length (firstLine (drop at t))) (drop at t))) 0 (ap (badFrom 1) (sym (lines-first (drop at t) some)) ∙ good) .0
+
+  -- the first line of what is left, as a callee sees it
+  same-line : firstLine (take (length t - at) (drop at t)) ≡ firstLine (drop at t)
+  same-line = ap firstLine (rest-is at t)
+
+  pub next-formed : wellFormed (firstLine (take (length t - at) (drop at t))) ≡ true
+  next-formed = ap wellFormed same-line ∙ formed
+
+  module _ (line : ℕ) (is : line ≡ length (firstLine (take (length t - at) (drop at t)))) where
+    long : line ≡ length (firstLine (drop at t))
+    long = is ∙ ap length same-line
+
+    pub next-some : 1 ≤ line
+    next-some = let h = first-some (drop at t) some in let e = long in omega arith
+
+    pub next-within : at + line ≤ length t
+    next-within =
+        let h = first-length (drop at t) in
+        let e = long in
+        let l : length (drop at t) ≡ length t - at = length-drop at t in
+        omega arith
+
+    nonzero : line ≡ 0 → ⊥
+    nonzero z = let h = next-some in omega arith
+
+    told : line ≡ lineLength (take (length t - at) (drop at t))
+    told = is ∙ sym (length-good (take (length t - at) (drop at t)) next-formed)
+
+    pub next-good : firstBad (drop (at + line) t) ≡ 0
+    unfolding firstBad
+    next-good = bad-none (linesOf (drop (at + line) t)) 1 0 (sym (turn-good t at line more told nonzero 1) ∙ good)
+
+    packed : packedOf (eventsOf (drop at t)) ≡ packOf (eventOf (firstLine (drop at t))) ++ packedOf (eventsOf (drop (at + line) t))
+    packed = turn-packed t at line more told nonzero
+
+    pub next-total : (n to total : ℕ) → n ≡ packedSize line → to + length (packedOf (eventsOf (drop at t))) ≡ total → to + n + length (packedOf (eventsOf (drop (at + line) t))) ≡ total
+    next-total n to total e s = turn-total t at line more told nonzero n to total e s
+
+    pub next-laid : (out out₂ : List ℕ) (to n : ℕ) → to + length (packOf (eventOf (firstLine (take (length t - at) (drop at t))))) ≤ length out → n ≡ packedSize line → out₂ ≡ put to (packOf (eventOf (firstLine (take (length t - at) (drop at t))))) out → sets out₂ (to + n) (packedOf (eventsOf (drop (at + line) t))) ≡ sets out to (packedOf (eventsOf (drop at t)))
+    next-laid out out₂ to n room e put-is =
+        let p = packOf (eventOf (firstLine (drop at t))) in
+        let q : packOf (eventOf (firstLine (take (length t - at) (drop at t)))) ≡ p = ap (λ (l : List ℕ). packOf (eventOf l)) same-line in
+        let r : to + length p ≤ length out = ap-le q in
+        let k : n ≡ length p = e ∙ ap packedSize long ∙ sym (size-packed (drop at t) formed) in
+        let s : out₂ ≡ sets out to p = put-is ∙ ap (λ (l : List ℕ). put to l out) q ∙ sym (sets-put p out to r) in
+        ap₂ (λ (l : List ℕ) (i : ℕ). sets l (to + i) (packedOf (eventsOf (drop (at + line) t)))) s k
+        ∙ sym (sets-append p (packedOf (eventsOf (drop (at + line) t))) out to)
+        ∙ ap (sets out to) (sym packed)
+      where
+        ap-le : {p : List ℕ} → packOf (eventOf (firstLine (take (length t - at) (drop at t)))) ≡ p → to + length p ≤ length out
+        ap-le q = let h = ap length q in omega arith
+
+  -- there is room for the next event where there is room for all that are left
+  pub next-room : (to total n : ℕ) → to + length (packedOf (eventsOf (drop at t))) ≡ total → total ≤ n → to + length (packOf (eventOf (firstLine (take (length t - at) (drop at t))))) ≤ n
+  next-room to total n s h =
+      let line = length (firstLine (take (length t - at) (drop at t))) in
+      let e : length (packedOf (eventsOf (drop at t))) ≡ length (packOf (eventOf (firstLine (drop at t)))) + length (packedOf (eventsOf (drop (at + line) t))) = ap length (packed line refl) ∙ length-append (packOf (eventOf (firstLine (drop at t)))) (packedOf (eventsOf (drop (at + line) t))) in
+      let q : length (packOf (eventOf (firstLine (take (length t - at) (drop at t))))) ≡ length (packOf (eventOf (firstLine (drop at t)))) = ap (λ (l : List ℕ). length (packOf (eventOf l))) same-line in
+      omega arith
+
+none : packedOf (eventsOf []) ≡ []
+unfolding packedOf eventsOf eventsIn linesOf
+none = refl
+
+pub pack-end : (t out out₀ : List ℕ) (at to : ℕ) → length t ≤ at → length (packedOf (eventsOf t)) ≤ length out₀ → sets out to (packedOf (eventsOf (drop at t))) ≡ sets out₀ 0 (packedOf (eventsOf t)) → out ≡ put 0 (packedOf (eventsOf t)) out₀
+pack-end t out out₀ at to h room e =
+    let d : drop at t ≡ [] = drop-of-length-le t h in
+    let r : 0 + length (packedOf (eventsOf t)) ≤ length out₀ = omega arith in
+    ap (λ (l : List ℕ). sets out to l) (sym none) ∙ ap (λ (l : List ℕ). sets out to (packedOf (eventsOf l))) (sym d) ∙ e ∙ sets-put (packedOf (eventsOf t)) out₀ 0 r

@@ -1,0 +1,68 @@
+-- What the calls answer, and what the lent buffer holds then. Document 01, "Job text" and "Refusal numbers". Assumes nothing.
+use mathlib.Core.Bool.{Bool, cond}
+use mathlib.Core.List.{List, [], _∷_}
+use Prim.Native.Nat.{ℕ, _+_, _*_, _/_, _-_}
+use lib.Dec.{eqb, ltb, leb}
+use lib.ListN.{length, drop}
+use Rattle.laws.specs.Bytes.{put}
+use Rattle.refusal.specs.declared.Refusal.{Refusal}
+use Rattle.refusal.specs.declared.Refusal.the-variants.{Text, Line, Output, Request}
+use Rattle.refusal.specs.Refusal.{numberOf, lineOf}
+use Rattle.request.specs.Setup.{setupOf}
+use Rattle.job.specs.declared.Done.{Done}
+use Rattle.job.specs.declared.Done.the-variants.{Bytes, Refused}
+use Rattle.job.specs.declared.Item.{Item}
+use Rattle.job.specs.declared.Item.the-variants as item
+use Rattle.job.specs.Event.{Event, attach, request, textOf, packedOf}
+use Rattle.job.specs.Text.{limit, firstLine, eventOf, wellFormed, firstBad, eventsOf}
+use Rattle.job.specs.Packed.{capped, packs, unpacked}
+
+-- an answer in numbers: 0 and how many bytes; or the refusal's number and the line that it names
+abbrev pub told : Done → List ℕ
+told (Bytes n) = 0 ∷ n ∷ []
+told (Refused r) = numberOf r ∷ lineOf r ∷ []
+
+pub record Outcome : Type 0 where
+  pub answer : List ℕ
+  pub buffer : List ℕ
+
+abbrev pub left : Done → List ℕ → Outcome
+left r out = record { answer = told r; buffer = out }
+
+-- row 11, "11 comes last"; "An output buffer keeps its bytes past the output"
+unfoldable pub delivered : List ℕ → List ℕ → Outcome
+delivered xs out = cond (leb (length xs) (length out)) (left (Bytes (length xs)) (put 0 xs out)) (left (Refused Output) out)
+
+-- rows 9 and 10, and how many packed bytes the text's events take
+unfoldable pub measureOf : List ℕ → Done
+measureOf t =
+    cond (ltb limit (length t)) (Refused Text)
+    (cond (eqb (firstBad t) 0) (Bytes (length (packedOf (eventsOf t)))) (Refused (Line (firstBad t))))
+
+-- the reader: rows 9, 10, 11; "A refusal leaves state and every buffer unchanged"
+unfoldable pub readOf : List ℕ → List ℕ → Outcome
+readOf t out =
+    cond (ltb limit (length t)) (left (Refused Text) out)
+    (cond (eqb (firstBad t) 0) (delivered (packedOf (eventsOf t)) out) (left (Refused (Line (firstBad t))) out))
+
+-- 5, and how long the text of a packed list is
+unfoldable pub sizeOf : List ℕ → Done
+sizeOf p = cond (packs p) (Bytes (capped (length (textOf (unpacked p))))) (Refused Request)
+
+-- the text writer: 5 "before 9 and 11"
+unfoldable pub writeOf : List ℕ → List ℕ → Outcome
+writeOf p out =
+    cond (packs p)
+    (cond (ltb limit (length (textOf (unpacked p)))) (left (Refused Text) out) (delivered (textOf (unpacked p)) out))
+    (left (Refused Request) out)
+
+-- what stands at a place of a text: n is the length of its line
+unfoldable pub itemFor : ℕ → ℕ → Event → Item
+itemFor at n attach = item.Attach (at + n)
+itemFor at n (request q) = item.Request (setupOf q) (at + 19) (at + n)
+
+-- the walk: the event that begins at a place, where its data begin, and where the next line begins
+unfoldable pub itemOf : List ℕ → ℕ → Item
+itemOf t at =
+    cond (leb (length t) at) item.End
+    (cond (wellFormed (firstLine (drop at t))) (itemFor at (length (firstLine (drop at t))) (eventOf (firstLine (drop at t)))) item.Bad)

@@ -1,0 +1,54 @@
+-- Events, their lines and their packed bytes. Document 01, "Events" and "Job text". Assumes nothing.
+use mathlib.Core.Bool.{Bool, true, false, _&&_}
+use mathlib.Core.List.{List, [], _∷_, _++_}
+use Prim.Native.Nat.{ℕ, zero, suc}
+use lib.Dec.{eqb}
+use lib.ListN.{take, drop}
+use Rattle.request.specs.Setup.{fitsOf}
+use Rattle.hex.specs.Hex.{hexOf, allBytes}
+
+-- "An event is Attach or a request": the request with its setup and its data
+pub data Event : Type 0 where
+  attach : Event
+  request : List ℕ → Event
+
+-- "followed by wLength data bytes if bit 7 of bmRequestType is clear, else none"
+unfoldable pub fits : Event → Bool
+fits attach = true
+fits (request q) = fitsOf q
+
+-- the event holds bytes only
+unfoldable pub inBytes : Event → Bool
+inBytes attach = true
+inBytes (request q) = allBytes q
+
+-- events that a job can have: each with the right data length, and of bytes
+unfoldable pub proper : List Event → Bool
+proper [] = true
+proper (e ∷ es) = (fits e && inBytes e) && proper es
+
+-- "`A`, or `Q`, tab, 16 hex digits of setup, tab, data in hex", "each line ended by LF"
+unfoldable pub lineOf : Event → List ℕ
+lineOf attach = 65 ∷ 10 ∷ []
+lineOf (request q) = 81 ∷ 9 ∷ (hexOf (take 8 q) ++ (9 ∷ (hexOf (drop 8 q) ++ (10 ∷ []))))
+
+-- "One event a line"; "Empty text is a job of no events"
+unfoldable pub textOf : List Event → List ℕ
+textOf [] = []
+textOf (e ∷ es) = lineOf e ++ textOf es
+
+-- "a byte 0 for Attach, or a byte 1 and then setup and data"
+unfoldable pub packOf : Event → List ℕ
+packOf attach = 0 ∷ []
+packOf (request q) = 1 ∷ q
+
+unfoldable pub packedOf : List Event → List ℕ
+packedOf [] = []
+packedOf (e ∷ es) = packOf e ++ packedOf es
+
+-- two lists of bytes are the same
+unfoldable pub same : List ℕ → List ℕ → Bool
+same [] [] = true
+same [] (y ∷ ys) = false
+same (x ∷ xs) [] = false
+same (x ∷ xs) (y ∷ ys) = eqb x y && same xs ys

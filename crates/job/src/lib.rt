@@ -1,0 +1,346 @@
+// The job text: read into packed events, written from them, and walked in place.
+use refusal::Refusal;
+use request::Setup;
+ghost use mathlib.Core.Path.{_≡_};
+ghost use mathlib.Core.Bool.{true};
+ghost use Prim.Native.Nat.{_+_, _*_, _≤_, _<_};
+ghost use lib.ListN.{length, take, drop, getD};
+ghost use Rattle.laws.specs.Bytes.{put};
+ghost use Rattle.request.specs.Setup.{setupOf};
+ghost use Rattle.hex.specs.Hex.{bytesOf};
+ghost use Rattle.job.specs.Event.{request, lineOf, textOf, packOf, packedOf};
+ghost use Rattle.job.specs.Text.{limit, firstLine, eventOf, wellFormed, lineLength, packedSize, firstBad, eventsOf};
+ghost use Rattle.job.specs.Packed.{pieceLength, lineSize, capped, eventIn, wellPacked, packs, unpacked};
+ghost use Rattle.job.specs.Calls.{told, left, measureOf, readOf, sizeOf, writeOf, itemOf};
+
+// A call's answer: how many bytes, or why none.
+pub enum Done {
+    Bytes(usize),
+    Refused(Refusal),
+}
+
+// What stands at a place of a text: its end, a malformed line, or an event with the place of the line after it.
+pub enum Item {
+    End,
+    Bad,
+    Attach {
+        next: usize,
+    },
+    Request {
+        setup: Setup,
+        data: usize,
+        next: usize,
+    },
+}
+
+// The most bytes that a text may have.
+pub const LIMIT: usize = 60000;
+
+// The setup that 16 digits spell.
+fn setup(field: &[u8]) -> Setup
+    requires { ⌜ length (now field) ≡ 16 ⌝ }
+    ensures { λ r. ⌜ r ≡ setupOf (bytesOf (now (field .entry))) ⌝ }
+{
+    let mut bytes = [0u8; 8];
+    hex::decode(field, &mut bytes, 0);
+    Setup::of(&bytes)
+}
+
+// How long the request's line at the front of `rest` is, or 0 where it is malformed.
+fn request_length(rest: &[u8]) -> usize
+    requires { ⌜ getD (now rest) 0 0 ≡ 81 ⌝ }
+    ensures { λ r. ⌜ r ≡ lineLength (now (rest .entry)) ⌝ }
+{
+    if rest.len() < 20 {
+        return 0;
+    }
+    if rest[1] != b'\t' {
+        return 0;
+    }
+    if rest[18] != b'\t' {
+        return 0;
+    }
+    if !hex::digits(&rest[2..18]) {
+        return 0;
+    }
+    let count = setup(&rest[2..18]).data_length();
+    if (rest.len() - 20) / 2 < count {
+        return 0;
+    }
+    let end = 19 + count * 2;
+    if rest[end] != b'\n' {
+        return 0;
+    }
+    if hex::digits(&rest[19..end]) {
+        end + 1
+    } else {
+        0
+    }
+}
+
+// How long the line at the front of `rest` is, or 0 where it is malformed.
+fn line_length(rest: &[u8]) -> usize
+    ensures { λ r. ⌜ (r ≡ lineLength (now (rest .entry))) × (r ≤ length (now (rest .entry))) ⌝ }
+{
+    let kind = buffer::byte_at(rest, 0);
+    match kind {
+        b'A' => {
+            if buffer::byte_at(rest, 1) == b'\n' {
+                return 2;
+            }
+            0
+        }
+        b'Q' => request_length(rest),
+        _ => 0,
+    }
+}
+
+// How many bytes the event of a line of this length takes when packed.
+fn packed_size(line: usize) -> usize
+    requires { ⌜ 1 ≤ line ⌝ }
+    ensures { λ r. ⌜ (r ≡ packedSize line) × (r ≤ line) ⌝ }
+{
+    if line < 20 {
+        return 1;
+    }
+    line / 2 - 1
+}
+
+// What stands at a place of the text.
+pub fn item_at(text: &[u8], at: usize) -> Item
+    ensures { λ r. ⌜ r ≡ itemOf (now (text .entry)) at ⌝ }
+{
+    if text.len() <= at {
+        return Item::End;
+    }
+    let line = line_length(&text[at..]);
+    if line == 0 {
+        return Item::Bad;
+    }
+    let next = at + line;
+    if line < 20 {
+        return Item::Attach { next };
+    }
+    let asked = setup(&text[at + 2..at + 18]);
+    Item::Request {
+        setup: asked,
+        data: at + 19,
+        next,
+    }
+}
+
+// The first malformed line, or how many bytes the text's events take when packed: one pass, a line a turn.
+fn scan(text: &[u8]) -> Done
+    requires { ⌜ length (now text) ≤ limit ⌝ }
+    ensures { λ r. ⌜ r ≡ measureOf (now (text .entry)) ⌝ }
+{
+    let mut at = 0;
+    let mut number = 1;
+    let mut size = 0;
+    while at < text.len() {
+        let line = line_length(&text[at..]);
+        if line == 0 {
+            return Done::Refused(Refusal::Line(number));
+        }
+        size += packed_size(line);
+        number += 1;
+        at += line;
+    }
+    Done::Bytes(size)
+}
+
+// How many bytes the text's events take when packed, or why the text is none.
+pub fn measure(text: &[u8]) -> Done
+    ensures { λ r. ⌜ told r ≡ told (measureOf (now (text .entry))) ⌝ }
+{
+    if LIMIT < text.len() {
+        return Done::Refused(Refusal::Text);
+    }
+    scan(text)
+}
+
+// Packs the request at the front of `rest` into `out` from place `at` on, and gives the length of its line.
+fn pack_request(rest: &[u8], out: &mut [u8], at: usize) -> usize
+    requires { ⌜ (wellFormed (firstLine (now rest)) ≡ true) × (getD (now rest) 0 0 ≡ 65 → ⊥) × (at + length (packOf (eventOf (firstLine (now rest)))) ≤ length (now out)) ⌝ }
+    ensures { λ r. ⌜ (now (out .exit) ≡ put at (packOf (eventOf (firstLine (now (rest .entry))))) (now (out .entry))) × (r ≡ length (firstLine (now (rest .entry)))) ⌝ }
+{
+    out[at] = 1;
+    hex::decode(&rest[2..18], out, at + 1);
+    let count = Setup::of(&out[at + 1..at + 9]).data_length();
+    let end = 19 + count * 2;
+    hex::decode(&rest[19..end], out, at + 9);
+    end + 1
+}
+
+// Packs the event at the front of `rest` into `out` from place `at` on, and gives the length of its line.
+fn pack_line(rest: &[u8], out: &mut [u8], at: usize) -> usize
+    requires { ⌜ (wellFormed (firstLine (now rest)) ≡ true) × (at + length (packOf (eventOf (firstLine (now rest)))) ≤ length (now out)) ⌝ }
+    ensures { λ r. ⌜ (now (out .exit) ≡ put at (packOf (eventOf (firstLine (now (rest .entry))))) (now (out .entry))) × (r ≡ length (firstLine (now (rest .entry)))) ⌝ }
+{
+    if buffer::byte_at(rest, 0) == b'A' {
+        out[at] = 0;
+        return 2;
+    }
+    pack_request(rest, out, at)
+}
+
+// Packs the text's events into `out`.
+fn pack(text: &[u8], out: &mut [u8])
+    requires { ⌜ (firstBad (now text) ≡ 0) × (length (packedOf (eventsOf (now text))) ≤ length (now out)) ⌝ }
+    ensures { λ _. ⌜ now (out .exit) ≡ put 0 (packedOf (eventsOf (now (text .entry)))) (now (out .entry)) ⌝ }
+{
+    let mut from = 0;
+    let mut to = 0;
+    while from < text.len() {
+        let line = pack_line(&text[from..], out, to);
+        to += packed_size(line);
+        from += line;
+    }
+}
+
+// Reads a text: its events go to the front of `out`, packed.
+pub fn read(text: &[u8], out: &mut [u8]) -> Done
+    ensures { λ r. ⌜ left r (now (out .exit)) ≡ readOf (now (text .entry)) (now (out .entry)) ⌝ }
+{
+    let measured = measure(text);
+    match measured {
+        Done::Refused(why) => Done::Refused(why),
+        Done::Bytes(size) => {
+            if out.len() < size {
+                return Done::Refused(Refusal::Output);
+            }
+            pack(text, out);
+            Done::Bytes(size)
+        }
+    }
+}
+
+// How many bytes the packed request at the front of `rest` takes, or 0 where the list ends inside it.
+fn request_piece(rest: &[u8]) -> usize
+    requires { ⌜ getD (now rest) 0 0 ≡ 1 ⌝ }
+    ensures { λ r. ⌜ r ≡ pieceLength (now (rest .entry)) ⌝ }
+{
+    if rest.len() < 9 {
+        return 0;
+    }
+    let count = Setup::of(&rest[1..]).data_length();
+    if rest.len() - 9 < count {
+        return 0;
+    }
+    9 + count
+}
+
+// How many bytes the packed event at the front of `rest` takes, or 0 where it is of no kind or ends too early.
+fn piece_length(rest: &[u8]) -> usize
+    requires { ⌜ 0 < length (now rest) ⌝ }
+    ensures { λ r. ⌜ (r ≡ pieceLength (now (rest .entry))) × (r ≤ length (now (rest .entry))) ⌝ }
+{
+    let kind = rest[0];
+    match kind {
+        0 => 1,
+        1 => request_piece(rest),
+        _ => 0,
+    }
+}
+
+// How long the line of an event of `piece` bytes is.
+fn line_size(piece: usize) -> usize
+    requires { ⌜ piece ≤ limit ⌝ }
+    ensures { λ r. ⌜ (r ≡ lineSize piece) × (r ≤ limit * 2 + 2) ⌝ }
+{
+    if piece < 9 {
+        return 2;
+    }
+    piece * 2 + 2
+}
+
+// A text's length with one more line, that of an event of `piece` bytes; it stops just over the limit.
+fn longer(size: usize, piece: usize) -> usize
+    requires { ⌜ size ≤ limit + 1 ⌝ }
+    ensures { λ r. ⌜ (r ≡ capped (size + lineSize piece)) × (r ≤ limit + 1) ⌝ }
+{
+    if LIMIT < piece {
+        return LIMIT + 1;
+    }
+    let total = size + line_size(piece);
+    if LIMIT < total { LIMIT + 1 } else { total }
+}
+
+// How long the text of a packed list is, or that it is no list of whole events.
+fn spelled_size(packed: &[u8]) -> Done
+    ensures { λ r. ⌜ r ≡ sizeOf (now (packed .entry)) ⌝ }
+{
+    let mut at = 0;
+    let mut size = 0;
+    while at < packed.len() {
+        let piece = piece_length(&packed[at..]);
+        if piece == 0 {
+            return Done::Refused(Refusal::Request);
+        }
+        size = longer(size, piece);
+        at += piece;
+    }
+    Done::Bytes(size)
+}
+
+// Writes the line of a request into `out` from place `at` on, and gives its length.
+pub fn write_request(bytes: &[u8], out: &mut [u8], at: usize) -> usize
+    requires { ⌜ (8 ≤ length (now bytes)) × (at + length (lineOf (request (now bytes))) ≤ length (now out)) ⌝ }
+    ensures { λ r. ⌜ (now (out .exit) ≡ put at (lineOf (request (now (bytes .entry)))) (now (out .entry))) × (r ≡ length (lineOf (request (now (bytes .entry))))) ⌝ }
+{
+    let digits = (bytes.len() - 8) * 2;
+    out[at] = b'Q';
+    out[at + 1] = b'\t';
+    hex::encode(&bytes[0..8], out, at + 2);
+    out[at + 18] = b'\t';
+    hex::encode(&bytes[8..], out, at + 19);
+    out[at + 19 + digits] = b'\n';
+    20 + digits
+}
+
+// Writes the line of a packed event into `out` from place `at` on, and gives its length.
+fn write_piece(piece: &[u8], out: &mut [u8], at: usize) -> usize
+    requires { ⌜ (wellPacked (now piece) ≡ true) × (at + length (lineOf (eventIn (now piece))) ≤ length (now out)) ⌝ }
+    ensures { λ r. ⌜ (now (out .exit) ≡ put at (lineOf (eventIn (now (piece .entry)))) (now (out .entry))) × (r ≡ length (lineOf (eventIn (now (piece .entry))))) ⌝ }
+{
+    if buffer::byte_at(piece, 0) == 0 {
+        out[at] = b'A';
+        out[at + 1] = b'\n';
+        return 2;
+    }
+    write_request(&piece[1..], out, at)
+}
+
+// Writes the text of a packed list of whole events into `out`.
+fn spell(packed: &[u8], out: &mut [u8])
+    requires { ⌜ (packs (now packed) ≡ true) × (length (textOf (unpacked (now packed))) ≤ length (now out)) ⌝ }
+    ensures { λ _. ⌜ now (out .exit) ≡ put 0 (textOf (unpacked (now (packed .entry)))) (now (out .entry)) ⌝ }
+{
+    let mut from = 0;
+    let mut to = 0;
+    while from < packed.len() {
+        let end = from + piece_length(&packed[from..]);
+        to += write_piece(&packed[from..end], out, to);
+        from = end;
+    }
+}
+
+// Writes a packed list's text to the front of `out`.
+pub fn write(packed: &[u8], out: &mut [u8]) -> Done
+    ensures { λ r. ⌜ left r (now (out .exit)) ≡ writeOf (now (packed .entry)) (now (out .entry)) ⌝ }
+{
+    let sized = spelled_size(packed);
+    match sized {
+        Done::Refused(fault) => Done::Refused(fault),
+        Done::Bytes(size) => {
+            if LIMIT < size {
+                return Done::Refused(Refusal::Text);
+            }
+            if out.len() < size {
+                return Done::Refused(Refusal::Output);
+            }
+            spell(packed, out);
+            Done::Bytes(size)
+        }
+    }
+}
