@@ -1,4 +1,5 @@
 pub mod Append
 pub mod Bytes
+pub mod Places
 pub mod Split
 pub mod Table
