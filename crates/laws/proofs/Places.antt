@@ -33,8 +33,8 @@ module _ (at : ℕ) (xs m : List ℕ) (h : at + length xs ≤ length m) where
       let a : length (take at m) ≤ i = rw front l in
       let b : i < length (take at m ++ xs) = rw both u in
       List·getD-append (take at m ++ xs) (drop (at + length xs) m) 0 i b
-        ∙ getD-behind (take at m) xs i a
-        ∙ ap (λ (k : ℕ). getD xs (i - k) 0) front
+      ∙ getD-behind (take at m) xs i a
+      ∙ ap (λ (k : ℕ). getD xs (i - k) 0) front
 
   pub put-after : (i : ℕ) → at + length xs ≤ i → getD (put at xs m) i 0 ≡ getD m i 0
   unfolding put
@@ -42,6 +42,6 @@ module _ (at : ℕ) (xs m : List ℕ) (h : at + length xs ≤ length m) where
       let b : length (take at m ++ xs) ≤ i = rw both l in
       let e : at + length xs + (i - (at + length xs)) ≡ i = omega arith in
       getD-behind (take at m ++ xs) (drop (at + length xs) m) i b
-        ∙ ap (λ (k : ℕ). getD (drop (at + length xs) m) (i - k) 0) both
-        ∙ getD-drop (at + length xs) m (i - (at + length xs)) 0
-        ∙ ap (λ (k : ℕ). getD m k 0) e
+      ∙ ap (λ (k : ℕ). getD (drop (at + length xs) m) (i - k) 0) both
+      ∙ getD-drop (at + length xs) m (i - (at + length xs)) 0
+      ∙ ap (λ (k : ℕ). getD m k 0) e
