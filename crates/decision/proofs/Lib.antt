@@ -1,2 +1,3 @@
+pub mod Cases
 pub mod Bounds
 pub mod Form

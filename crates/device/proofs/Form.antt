@@ -138,3 +138,14 @@ module _ (n : ℕ) (d : Device) (ran : Ran) (f : Form n d) (s : Sane n ran) wher
       (λ b.
       by-bool (isMode 6 (d .mode)) (λ c. rw (a, b, c) (entered-form n d f Left (calm-wire (d .mode) 6 c refl refl) (record { sync = refl; error = refl })))
       (λ c. rw (a, b, c) f)))
+
+-- after a GETSTATUS nothing is pending
+pub after-status-none : (n : ℕ) (d : Device) (ran : Ran) → Form n d → afterStatus d ran .pending ≡ Nothing
+unfolding afterStatus
+after-status-none n d ran f =
+    by-bool (isMode 3 (d .mode))
+    (λ a. rw a (by-bool (eqb (ran .status) 0) (λ z. rw z) (λ z. rw z)))
+    (λ a.
+    let none : d .pending ≡ Nothing = none-pending (d .mode) (d .pending) a (f .pending) in
+    by-bool (isMode 4 (d .mode)) (λ b. rw (a, b) none)
+    (λ b. by-bool (isMode 6 (d .mode)) (λ c. rw (a, b, c) none) (λ c. rw (a, b, c) none)))

@@ -15,17 +15,17 @@ use Rattle.laws.proofs.Split.{by-bool}
 use Rattle.laws.proofs.Bytes.{filled-length, filled-span}
 use Rattle.board.specs.Layout.{pageBytes}
 use Rattle.board.specs.Protection.{writeProtected}
-use Rattle.memory.specs.Flash.{kept, white, blank, laid, stored, erased, erasedFrom}
+use Rattle.memory.specs.Flash.{kept, each, blank, laid, stored, erased, erasedFrom}
 
 -- the erased test, from place i up to place e: a turn
 pub blank-turn : (word : ℕ) (m : List ℕ) (i e : ℕ) → i < e → i < length m → blank word i (e - i) m ≡ ((eqb (getD m i 0) 0xFF || kept word i) && blank word (i + 1) (e - (i + 1)) m)
-unfolding blank white
+unfolding blank each
 blank-turn word m i e h l =
     let k : e - i ≡ suc (e - (i + 1)) = omega arith in
     rw (k, drop-cons m i 0 l, add-one i)
 
 pub blank-end : (word : ℕ) (m : List ℕ) (i e : ℕ) → e ≤ i → blank word i (e - i) m ≡ true
-unfolding blank white
+unfolding blank each
 blank-end word m i e h =
     let k : e - i ≡ 0 = omega arith in
     rw k
@@ -61,7 +61,7 @@ module _ (word i x : ℕ) (m : List ℕ) (h : i < length m) where
   one-back = by-bool (kept word i) (λ e. rw e) (λ e. rw e (drop-set-lt (suc i) m i x (omega arith)))
 
   -- a byte at a time is the same as all at once
-  stored-cons : (xs : List ℕ) → stored word i (x ∷ xs) m ≡ stored word (suc i) xs (storedOne word i x m)
+  pub stored-cons : (xs : List ℕ) → stored word i (x ∷ xs) m ≡ stored word (suc i) xs (storedOne word i x m)
   unfolding stored laid
   stored-cons xs = sym (rw (one-front, one-back, drop-cons m i 0 h) (append-snoc (take i m) (cond (kept word i) (getD m i 0) x) (laid word (suc i) xs (drop (suc i) m))))
 
@@ -77,9 +77,12 @@ pub stored-kept : (word : ℕ) (m m′ xs : List ℕ) (at j : ℕ) → j < lengt
 unfolding storedOne
 stored-kept word m m′ xs at j h l f e = sym (stored-turn word m xs at j h l ∙ rw (f, e))
 
-pub stored-end : (word : ℕ) (m xs : List ℕ) (i j : ℕ) → length xs ≤ j → stored word i (drop j xs) m ≡ m
+pub stored-none : (word i : ℕ) (m : List ℕ) → stored word i [] m ≡ m
 unfolding stored laid
-stored-end word m xs i j h = rw (drop-of-length-le xs h) (take-append-drop i m)
+stored-none word i m = take-append-drop i m
+
+pub stored-end : (word : ℕ) (m xs : List ℕ) (i j : ℕ) → length xs ≤ j → stored word i (drop j xs) m ≡ m
+stored-end word m xs i j h = rw (drop-of-length-le xs h) (stored-none word i m)
 
 pub erased-length : (word page : ℕ) (m : List ℕ) → (page + 1) * pageBytes ≤ length m → length (erased word page m) ≡ length m
 unfolding erased

@@ -1,2 +1,3 @@
 pub mod Flash
+pub mod Places
 pub mod Whole

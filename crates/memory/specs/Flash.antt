@@ -12,15 +12,15 @@ use Rattle.board.specs.Protection.{writeProtected}
 abbrev pub kept : ℕ → ℕ → Bool
 kept word i = writeProtected word (i / pageBytes)
 
--- of the first n of the bytes ms, which stand from place i on, each is 0xFF or in a write-protected page
-unfoldable pub white : ℕ → ℕ → ℕ → List ℕ → Bool
-white word i zero ms = true
-white word i (suc n) [] = true
-white word i (suc n) (m ∷ ms) = (eqb m 0xFF || kept word i) && white word (suc i) n ms
+-- of the first n of the bytes ms, which stand for places from i on, each is v or in a write-protected page
+unfoldable pub each : ℕ → ℕ → ℕ → ℕ → List ℕ → Bool
+each v word i zero ms = true
+each v word i (suc n) [] = true
+each v word i (suc n) (m ∷ ms) = (eqb m v || kept word i) && each v word (suc i) n ms
 
 -- check 3, turned round: no "target byte in an unprotected page is not 0xFF"
 unfoldable pub blank : ℕ → ℕ → ℕ → List ℕ → Bool
-blank word at count m = white word at count (drop at m)
+blank word at count m = each 0xFF word at count (drop at m)
 
 -- the bytes xs over the bytes ms, which stand from place i on, but for those in write-protected pages
 unfoldable pub laid : ℕ → ℕ → List ℕ → List ℕ → List ℕ

@@ -1,0 +1,313 @@
+-- An event moves every board as it moves the work area, and falls on a board of zeros where it falls there. Assumes nothing.
+use mathlib.Core.Path.{_≡_, refl, ap, ap₂, _∙_, sym}
+use mathlib.Core.Bool.{Bool, true, false, cond, not, _&&_, _||_, true≢false, false≢true}
+use mathlib.Core.Logic.{_⊎_, inl, inr}
+use mathlib.Core.List.{List, [], _∷_}
+use Prim.Native.Nat.{ℕ, _+_, _-_, _≤_, _<_}
+use native.Mathlib.Omega.{arith}
+use native.Mathlib.Nat.{min-le-right}
+use lib.Dec.{T, eqb}
+use lib.ListN.{length, take, drop, getD, length-take, length-drop}
+use lib.Seq.{length-take-le}
+use borrow.Author.Tests.{eqb-true, eq-eqb}
+use Rattle.laws.specs.Bytes.{put}
+use Rattle.laws.proofs.Append.{take-put, part-put}
+use Rattle.laws.proofs.Bytes.{put-length, take-at-most}
+use Rattle.laws.proofs.Split.{by-bool}
+use Rattle.board.specs.Layout.{optionsFrom, memoryBytes}
+use Rattle.board.specs.Protection.{readProtected}
+use Rattle.request.specs.declared.Setup.{Setup}
+use Rattle.request.specs.declared.Request.{Request}
+use Rattle.request.specs.declared.Request.the-variants.{Download, Upload, GetStatus, GetState}
+use Rattle.request.specs.Request.{transferBytes, requestOf}
+use Rattle.request.specs.Setup.{setupOf, dataLength, fitsOf}
+use Rattle.request.proofs.Known.{download-brings}
+use Rattle.request.proofs.Lengths.{fits-eight, fits-data}
+use Rattle.device.specs.declared.Mode.the-variants.{Idle, ManifestSync, UploadIdle}
+use Rattle.device.specs.declared.Pending.{Pending}
+use Rattle.device.specs.declared.Pending.the-variants.{Nothing, SetPointer, ErasePage, MassErase, ReadUnprotect, Write}
+use Rattle.device.specs.declared.Device.{Device}
+use Rattle.device.specs.declared.Ran.{Ran}
+use Rattle.device.specs.Wire.{wireOf}
+use Rattle.device.specs.State.{started, idled, entered, afterStatus, reportOf}
+use Rattle.device.specs.WellFormed.{wellFormed}
+use Rattle.device.proofs.Form.{Form, well-formed, after-status-none}
+use Rattle.decision.specs.declared.Command.{Command}
+use Rattle.decision.specs.declared.Decision.{Decision}
+use Rattle.decision.specs.declared.Decision.the-variants as decided
+use Rattle.decision.specs.Decide.{commandOf, decideOf, waiting}
+use Rattle.decision.proofs.Cases.{Taken, Cases, decide-case}
+use Rattle.action.specs.declared.Access.{Access}
+use Rattle.action.specs.declared.Access.the-variants.{Denied, InFlash, InRam, InOptions}
+use Rattle.action.specs.Access.{accessOf, blockAddress}
+use Rattle.action.proofs.Spans.{Granted, access-granted}
+use Rattle.loader.specs.declared.Event.the-variants as event
+use Rattle.loader.specs.declared.Answer.the-variants.{Accepted}
+use Rattle.loader.specs.Answer.{Outcome, outcome}
+use Rattle.loader.specs.Serve.{InOrder, runOf, statusBytes, statusOf, readAt, readOf, commandCodes, actedOf, serveOf}
+use Rattle.loader.specs.Step.{admittedOf, stepOf}
+use Rattle.job.specs.Event.{Event, attach, request}
+use Rattle.checker.specs.World.{World, worldOf, steppedOf, fails, asksStatus, isGetStatus}
+use Rattle.checker.specs.Cells.{known, blockFrom, workBytes, blockOf, Moved, falls, goes, readMoves, readsMoves, statusMoves, decisionMoves, moves}
+use Rattle.checker.proofs.Likeness.{Alike}
+use Rattle.checker.proofs.Learnt.{put-outside}
+use Rattle.checker.proofs.Actions.{protection-same}
+use Rattle.checker.proofs.Moves.{Held, Ran′, goes-device, goes-work, falls-not, status-goes, status-falls}
+
+-- a board that began with memory m₀ stands where the device d and the work area w say
+pub record Stands (n : ℕ) (m₀ : List ℕ) (x : World) (d : Device) (w : List ℕ) : Type 0 where
+  pub device : x .device ≡ d
+  pub alike : Alike n m₀ (x .memory) w
+  pub held : Held n (d .pending) (x .block) w
+  pub block : length (x .block) ≡ transferBytes
+  pub reply : length (x .reply) ≡ transferBytes
+
+-- a fault that only a Reply to a GETSTATUS has
+or-false : (a : Bool) → (a && false) ≡ false
+or-false true = refl
+or-false false = refl
+
+-- the answer Accepted never fails
+accepted-fine : (e : Event) (o : Outcome) → o .answer ≡ 0 ∷ [] → fails e o ≡ false
+unfolding fails
+accepted-fine e o a = rw a (or-false (asksStatus e))
+
+-- nor does a Reply to what is no GETSTATUS
+reply-fine : (e : Event) (o : Outcome) (count : ℕ) → o .answer ≡ 1 ∷ count ∷ [] → asksStatus e ≡ false → fails e o ≡ false
+unfolding fails
+reply-fine e o count a s = rw (a, s)
+
+status-fine : (e : Event) (o : Outcome) (count : ℕ) → o .answer ≡ 1 ∷ count ∷ [] → getD (o .reply) 0 0 ≡ 0 → fails e o ≡ false
+unfolding fails
+status-fine e o count a z = rw (a, z) (or-false (asksStatus e))
+
+status-fails : (e : Event) (o : Outcome) (count : ℕ) → o .answer ≡ 1 ∷ count ∷ [] → asksStatus e ≡ true → eqb (getD (o .reply) 0 0) 0 ≡ false → fails e o ≡ true
+unfolding fails
+status-fails e o count a s z = rw (a, s, z)
+
+-- the front of a reply
+put-first : (x : ℕ) (xs y : List ℕ) → getD (put 0 (x ∷ xs) y) 0 0 ≡ x
+unfolding put
+put-first x xs y = refl
+
+reply-length : (xs y : List ℕ) → length xs ≤ transferBytes → length y ≡ transferBytes → length (put 0 xs y) ≡ transferBytes
+reply-length xs y h l =
+    let room : 0 + length xs ≤ length y = omega arith in
+    put-length 0 xs y room ∙ l
+
+-- a request q on one board: n pages, state d, memory m, block buffer b, reply buffer y, which began as m₀, beside the work area w
+module _ (n : ℕ) (d : Device) (q m b y m₀ w : List ℕ) (form : Form n d) (fit : fitsOf q ≡ true) (s : Alike n m₀ m w) (held : Held n (d .pending) b w) (lb : length b ≡ transferBytes) (ly : length y ≡ transferBytes) where
+  abbrev Zeros : Type 0
+  Zeros = (i : ℕ) → i < optionsFrom n → getD m₀ i 0 ≡ 0
+
+  -- what is to be shown of a decision
+  record Right (x : Decision) : Type 0 where
+    pub on : (d′ : Device) (w′ : List ℕ) → decisionMoves x n d q w ≡ goes d′ w′ → (fails (request q) (actedOf x n d q m b y) ≡ false) × Stands n m₀ (worldOf (actedOf x n d q m b y)) d′ w′
+    pub down : Zeros → decisionMoves x n d q w ≡ falls → fails (request q) (actedOf x n d q m b y) ≡ true
+
+  silent-right : Right decided.Silent
+  unfolding fails
+  silent-right = record { on = λ d′ w′ e. absurd (falls-not d′ w′ e); down = λ z e. refl }
+
+  stall-right : (next : Device) → Right (decided.Stall next)
+  unfolding fails
+  stall-right next = record { on = λ d′ w′ e. absurd (falls-not d′ w′ e); down = λ z e. refl }
+
+  accept-right : (next : Device) → Held n (next .pending) b w → Right (decided.Accept next)
+  accept-right next h =
+      record {
+        on = λ d′ w′ e.
+            let ed = goes-device next d′ w w′ e in
+            let ew = goes-work next d′ w w′ e in
+            (accepted-fine (request q) (actedOf (decided.Accept next) n d q m b y) refl, rw (sym ed, sym ew) (record { device = refl; alike = s; held = h; block = lb; reply = ly }));
+        down = λ z e. absurd (falls-not next w (sym e));
+      }
+
+  -- a block that is taken goes to the block buffer and to the work area's block
+  block-alike : (xs : List ℕ) → length xs ≤ transferBytes → Alike n m₀ m (put (blockFrom n) xs w)
+  block-alike xs h =
+      let room : blockFrom n + length xs ≤ length w = omega (arith, s .work) in
+      let same : (i : ℕ) → i < blockFrom n → getD (put (blockFrom n) xs w) i 0 ≡ getD w i 0 = λ i l. put-outside (blockFrom n) xs w i room (inl l) in
+      let marks : (i : ℕ) → i < memoryBytes n → known n (put (blockFrom n) xs w) i ≡ known n w i =
+      λ i l. let k : memoryBytes n + i < blockFrom n = omega arith in ap (λ (v : ℕ). eqb v 1) (same (memoryBytes n + i) k) in
+      record {
+        memory = s .memory;
+        work = put-length (blockFrom n) xs w room ∙ s .work;
+        cells = λ i l. let k : i < blockFrom n = omega arith in s .cells i l ∙ sym (rw (marks i l, same i k));
+        options = λ i a l. marks i l ∙ s .options i a l;
+      }
+
+  take-right : (next : Device) (count : ℕ) → length (drop 8 q) ≡ count → count ≤ transferBytes → (take count (put 0 (drop 8 q) b) ≡ blockOf n count (put (blockFrom n) (drop 8 q) w) → Held n (next .pending) (put 0 (drop 8 q) b) (put (blockFrom n) (drop 8 q) w)) → Right (decided.Take next)
+  take-right next count l h holds =
+      let xs : List ℕ = drop 8 q in
+      let short : length (drop 8 q) ≤ transferBytes = omega arith in
+      let begins : blockFrom n ≤ length w = omega (arith, s .work) in
+      let both : take count (put 0 (drop 8 q) b) ≡ blockOf n count (put (blockFrom n) (drop 8 q) w) =
+      rw (sym l) (take-put (drop 8 q) b ∙ sym (part-put (drop 8 q) w (blockFrom n) begins)) in
+      record {
+        on = λ d′ w′ e.
+            let ed = goes-device next d′ (put (blockFrom n) (drop 8 q) w) w′ e in
+            let ew = goes-work next d′ (put (blockFrom n) (drop 8 q) w) w′ e in
+            (accepted-fine (request q) (actedOf (decided.Take next) n d q m b y) refl, rw (sym ed, sym ew) (record { device = refl; alike = block-alike (drop 8 q) short; held = holds both; block = reply-length (drop 8 q) b short lb; reply = ly }));
+        down = λ z e. absurd (falls-not next (put (blockFrom n) (drop 8 q) w) (sym e));
+      }
+
+  -- a reply to what is no GETSTATUS
+  replies : (next : Device) (count : ℕ) (xs : List ℕ) (o : Outcome) → o .answer ≡ 1 ∷ count ∷ [] → o .device ≡ next → o .memory ≡ m → o .block ≡ b → o .reply ≡ put 0 xs y → length xs ≤ transferBytes → asksStatus (request q) ≡ false → Held n (next .pending) b w → (d′ : Device) (w′ : List ℕ) → goes next w ≡ goes d′ w′ → (fails (request q) o ≡ false) × Stands n m₀ (worldOf o) d′ w′
+  replies next count xs o ea ed em eb ey h a hp d′ w′ e =
+      let id = goes-device next d′ w w′ e in
+      let iw = goes-work next d′ w w′ e in
+      (reply-fine (request q) o count ea a, rw (sym id, sym iw) (record { device = ed; alike = rw em s; held = rw eb hp; block = ap length eb ∙ lb; reply = ap length ey ∙ reply-length xs y h ly }))
+
+  commands-right : (next : Device) (count : ℕ) → asksStatus (request q) ≡ false → Held n (next .pending) b w → Right (decided.Commands next count)
+  commands-right next count a h =
+      let short : length (take count commandCodes) ≤ transferBytes = short-codes count in
+      record {
+        on = λ d′ w′ e. replies next count (take count commandCodes) (actedOf (decided.Commands next count) n d q m b y) refl refl refl refl refl short a h d′ w′ e;
+        down = λ z e. absurd (falls-not next w (sym e));
+      }
+    where
+      short-codes : (k : ℕ) → length (take k commandCodes) ≤ transferBytes
+      short-codes k = omega (arith, length-take k commandCodes, min-le-right k (length commandCodes))
+
+  state-right : asksStatus (request q) ≡ false → Right decided.State
+  state-right a =
+      record {
+        on = λ d′ w′ e. replies d 1 (wireOf (d .mode) ∷ []) (actedOf decided.State n d q m b y) refl refl refl refl refl (omega arith) a held d′ w′ e;
+        down = λ z e. absurd (falls-not d w (sym e));
+      }
+
+  sent-short : (at count : ℕ) → count ≤ transferBytes → length (take count (drop at m)) ≤ transferBytes
+  sent-short at count h = omega (arith, take-at-most count (drop at m))
+
+  -- a read by an access that was found
+  read-on : (access : Access) (count : ℕ) → count ≤ transferBytes → asksStatus (request q) ≡ false → (d′ : Device) (w′ : List ℕ) → readMoves access d w ≡ goes d′ w′ → (fails (request q) (readAt access count d m b y) ≡ false) × Stands n m₀ (worldOf (readAt access count d m b y)) d′ w′
+  read-on (Denied status) count h a d′ w′ e = absurd (falls-not d′ w′ e)
+  read-on (InFlash at) count h a d′ w′ e = replies (entered d UploadIdle) count (take count (drop at m)) (readAt (InFlash at) count d m b y) refl refl refl refl refl (sent-short at count h) a held d′ w′ e
+  read-on (InRam at) count h a d′ w′ e = replies (entered d UploadIdle) count (take count (drop at m)) (readAt (InRam at) count d m b y) refl refl refl refl refl (sent-short at count h) a held d′ w′ e
+  read-on (InOptions at) count h a d′ w′ e = replies (entered d UploadIdle) count (take count (drop at m)) (readAt (InOptions at) count d m b y) refl refl refl refl refl (sent-short at count h) a held d′ w′ e
+
+  read-down : (access : Access) (count : ℕ) → readMoves access d w ≡ falls → fails (request q) (readAt access count d m b y) ≡ true
+  unfolding fails
+  read-down (Denied status) count e = refl
+  read-down (InFlash at) count e = absurd (falls-not (entered d UploadIdle) w (sym e))
+  read-down (InRam at) count e = absurd (falls-not (entered d UploadIdle) w (sym e))
+  read-down (InOptions at) count e = absurd (falls-not (entered d UploadIdle) w (sym e))
+
+  -- the board finds the access that was found for all
+  found : Access
+  found = accessOf n (readProtected n w) (blockAddress (setupOf q .value) (setupOf q .length) (d .pointer)) (setupOf q .length)
+
+  read-found : readOf n d (setupOf q) m b y ≡ readAt found (setupOf q .length) d m b y
+  unfolding readOf found
+  read-found = rw (protection-same n m₀ m w s)
+
+  moves-found : readsMoves n d (setupOf q) w ≡ readMoves found d w
+  unfolding readsMoves found
+  moves-found = refl
+
+  read-right : asksStatus (request q) ≡ false → setupOf q .length ≤ transferBytes → Right decided.Read
+  read-right a h =
+      record {
+        on = λ d′ w′ e.
+            let r = read-on found (setupOf q .length) h a d′ w′ (sym moves-found ∙ e) in
+            (ap (fails (request q)) read-found ∙ r .0, rw read-found (r .1));
+        down = λ z e. ap (fails (request q)) read-found ∙ read-down found (setupOf q .length) (sym moves-found ∙ e);
+      }
+
+  -- a GETSTATUS
+  status-right : asksStatus (request q) ≡ true → ((d′ : Device) (w′ : List ℕ) → statusMoves n d w ≡ goes d′ w′ → Held n (d′ .pending) b w′) → Right decided.Status
+  unfolding statusOf
+  status-right a hp =
+      let report = reportOf d (runOf n d b m .ran) in
+      record {
+        on = λ d′ w′ e.
+            let r = status-goes n d b m₀ m w form held s d′ w′ e in
+            (status-fine (request q) (actedOf decided.Status n d q m b y) 6 refl (put-first (report .status) _ y ∙ r .report), record { device = r .device; alike = r .alike; held = hp d′ w′ e; block = lb; reply = reply-length (statusBytes report) y (omega arith) ly });
+        down = λ z e. status-fails (request q) (actedOf decided.Status n d q m b y) 6 refl a (ap (λ (k : ℕ). eqb k 0) (put-first (report .status) _ y) ∙ status-falls n d b m₀ m w form held s z e);
+      }
+
+  -- nothing is pending then
+  status-held : (d′ : Device) (w′ : List ℕ) → statusMoves n d w ≡ goes d′ w′ → Held n (d′ .pending) b w′
+  status-held d′ w′ e =
+      let r = status-goes n d b m₀ m w form held s d′ w′ e in
+      let none : d′ .pending ≡ Nothing = ap (λ (x : Device). x .pending) (sym (r .device)) ∙ after-status-none n d (runOf n d b m .ran) form in
+      rw none tt
+
+  stage-length : requestOf (setupOf q) ≡ Download → length (drop 8 q) ≡ setupOf q .length
+  stage-length a =
+      let l : length q ≡ 8 + dataLength (setupOf q) = fits-data q fit in
+      let e : dataLength (setupOf q) ≡ setupOf q .length = download-brings (setupOf q) a in
+      length-drop 8 q ∙ (let z : length q - 8 ≡ setupOf q .length = omega arith in z)
+
+  decided-right : (k : Command) → Right (decideOf d (setupOf q) k)
+  decided-right k =
+      decide-case Right d (setupOf q) k
+      (record {
+        silent = silent-right;
+        refused = stall-right _;
+        leaves = λ t. accept-right (entered d ManifestSync) held;
+        points = λ t address. accept-right (waiting d (SetPointer address)) tt;
+        erases = λ t address. accept-right (waiting d (ErasePage address)) tt;
+        erases-all = λ t. accept-right (waiting d MassErase) tt;
+        unprotects = λ t. accept-right (waiting d ReadUnprotect) tt;
+        takes = λ t f. take-right (waiting d (Write (setupOf q .value) (setupOf q .length))) (setupOf q .length) (stage-length (t .asked)) (t .short) (λ e. e);
+        lists = λ t count h. commands-right (entered d Idle) count (ap isGetStatus (t .asked)) held;
+        reads = λ t. read-right (ap isGetStatus (t .asked)) (t .short);
+        clears = accept-right (idled d) tt;
+        state = λ t. state-right (ap isGetStatus (t .asked));
+        status = λ t. status-right (ap isGetStatus (t .asked)) status-held;
+      })
+
+  pub serve-right-on : (d′ : Device) (w′ : List ℕ) → moves n d w (request q) ≡ goes d′ w′ → (fails (request q) (serveOf n d q m b y) ≡ false) × Stands n m₀ (worldOf (serveOf n d q m b y)) d′ w′
+  unfolding moves serveOf
+  serve-right-on d′ w′ e = decided-right (commandOf (drop 8 q)) .on d′ w′ e
+
+  pub serve-right-down : Zeros → moves n d w (request q) ≡ falls → fails (request q) (serveOf n d q m b y) ≡ true
+  unfolding moves serveOf
+  serve-right-down z e = decided-right (commandOf (drop 8 q)) .down z e
+
+-- an event that a job can have
+abbrev pub Fitting : Event → Type 0
+Fitting attach = T true
+Fitting (request q) = fitsOf q ≡ true
+
+-- a call that no refusal stops is served
+in-order-serves : (n : ℕ) (d : Device) (q m b y : List ℕ) → InOrder n d q m b y → stepOf n d event.Request q m b y ≡ serveOf n d q m b y
+unfolding stepOf admittedOf
+in-order-serves n d q m b y i =
+    rw (eq-eqb (length m) (memoryBytes n) (i .memory), eq-eqb (length b) transferBytes (i .block), eq-eqb (length y) transferBytes (i .reply), i .device, i .request)
+
+attach-starts : (n : ℕ) (d : Device) (q m b y : List ℕ) → length m ≡ memoryBytes n → length b ≡ transferBytes → length y ≡ transferBytes → wellFormed n d ≡ true → stepOf n d event.Attach q m b y ≡ outcome Accepted started m b y
+unfolding stepOf admittedOf
+attach-starts n d q m b y lm lb ly f =
+    rw (eq-eqb (length m) (memoryBytes n) lm, eq-eqb (length b) transferBytes lb, eq-eqb (length y) transferBytes ly, f)
+
+module _ (n : ℕ) (m₀ : List ℕ) (d : Device) (m b y w : List ℕ) (form : Form n d) (st : Stands n m₀ (record { device = d; memory = m; block = b; reply = y }) d w) where
+  abbrev here : World
+  here = record { device = d; memory = m; block = b; reply = y }
+
+  served : (q : List ℕ) → fitsOf q ≡ true → steppedOf n here (request q) ≡ serveOf n d q m b y
+  unfolding steppedOf
+  served q f = in-order-serves n d q m b y (record { memory = st .alike .memory; block = st .block; reply = st .reply; device = well-formed n d form; request = f })
+
+  attached : steppedOf n here attach ≡ outcome Accepted started m b y
+  unfolding steppedOf
+  attached = attach-starts n d [] m b y (st .alike .memory) (st .block) (st .reply) (well-formed n d form)
+
+  -- an event that goes on for all boards goes on here
+  pub event-on : (e : Event) → Fitting e → (d′ : Device) (w′ : List ℕ) → moves n d w e ≡ goes d′ w′ → (fails e (steppedOf n here e) ≡ false) × Stands n m₀ (worldOf (steppedOf n here e)) d′ w′
+  unfolding moves
+  event-on attach f d′ w′ e =
+      let ed = goes-device started d′ w w′ e in
+      let ew = goes-work started d′ w w′ e in
+      (accepted-fine attach (steppedOf n here attach) (ap (λ (o : Outcome). o .answer) attached), rw (attached, sym ed, sym ew) (record { device = refl; alike = st .alike; held = tt; block = st .block; reply = st .reply }))
+  event-on (request q) f d′ w′ e =
+      let r = serve-right-on n d q m b y m₀ w form f (st .alike) (st .held) (st .block) (st .reply) d′ w′ e in
+      (ap (fails (request q)) (served q f) ∙ r .0, rw (served q f) (r .1))
+
+  -- one that falls for some falls on a board of zeros
+  pub event-down : (e : Event) → Fitting e → ((i : ℕ) → i < optionsFrom n → getD m₀ i 0 ≡ 0) → moves n d w e ≡ falls → fails e (steppedOf n here e) ≡ true
+  unfolding moves
+  event-down attach f z e = absurd (falls-not started w (sym e))
+  event-down (request q) f z e = ap (fails (request q)) (served q f) ∙ serve-right-down n d q m b y m₀ w form f (st .alike) (st .held) (st .block) (st .reply) z e

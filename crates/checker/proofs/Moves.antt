@@ -1,0 +1,180 @@
+-- An event moves every board as it moves the device and the work area. Assumes nothing.
+use mathlib.Core.Path.{_≡_, refl, ap, ap₂, _∙_, sym}
+use mathlib.Core.Bool.{Bool, true, false, cond, not, _&&_, _||_, true≢false, false≢true}
+use mathlib.Core.List.{List, [], _∷_}
+use Prim.Native.Nat.{ℕ, _+_, _-_, _≤_, _<_}
+use native.Mathlib.Omega.{arith}
+use lib.Dec.{T, eqb}
+use lib.ListN.{length, take, drop, getD, length-drop}
+use borrow.Author.Tests.{eqb-true, eq-eqb}
+use Rattle.laws.specs.Bytes.{put}
+use Rattle.laws.proofs.Bytes.{put-length}
+use Rattle.laws.proofs.Split.{by-bool}
+use Rattle.board.specs.Layout.{optionsFrom, memoryBytes}
+use Rattle.board.specs.declared.Place.{Place}
+use Rattle.board.specs.declared.Place.the-variants.{Flash, Ram, Options, Outside}
+use Rattle.board.specs.Span.{placeOf}
+use Rattle.board.specs.Protection.{readProtected}
+use Rattle.request.specs.declared.Setup.{Setup}
+use Rattle.request.specs.Request.{transferBytes, requestOf}
+use Rattle.request.specs.Setup.{setupOf, fitsOf}
+use Rattle.device.specs.declared.Pending.{Pending}
+use Rattle.device.specs.declared.Pending.the-variants.{Nothing, SetPointer, ErasePage, MassErase, ReadUnprotect, Write}
+use Rattle.device.specs.declared.Device.{Device}
+use Rattle.device.specs.declared.Ran.{Ran}
+use Rattle.device.specs.Wire.{isMode}
+use Rattle.device.specs.State.{started, entered, afterStatus, reportOf}
+use Rattle.device.specs.WellFormed.{inRegion, wellFormed}
+use Rattle.device.proofs.Form.{Form, well-formed}
+use Rattle.action.specs.declared.Action.{Action}
+use Rattle.action.specs.declared.Action.the-variants.{Rest, Fail, Point, Erase, EraseAll, Unprotect, ClearRam, StoreFlash, StoreRam, StoreOptions}
+use Rattle.action.specs.declared.Access.{Access}
+use Rattle.action.specs.declared.Access.the-variants.{Denied, InFlash, InRam, InOptions}
+use Rattle.action.specs.Access.{accessOf, blockAddress}
+use Rattle.action.specs.Action.{storeAt, pointOf, eraseAt, eraseOf, actionIn, actionOf, ranOf}
+use Rattle.loader.specs.Perform.{Performed, performedOf, countOf}
+use Rattle.loader.specs.Serve.{Run, run, runOf}
+use Rattle.loader.proofs.Bounds.{Fits, action-fits}
+use Rattle.checker.specs.Cells.{Moved, falls, goes, blockFrom, workBytes, blockOf, workedOf, reports, runs, statusMoves}
+use Rattle.checker.proofs.Likeness.{Alike}
+use Rattle.checker.proofs.Actions.{protection-same}
+use Rattle.checker.proofs.Performs.{Performs, performs-well, performs-ill}
+
+-- a pending write's bytes are in the board's block buffer and in the work area
+abbrev pub Held : ℕ → Pending → List ℕ → List ℕ → Type 0
+Held n Nothing b w = T true
+Held n (SetPointer address) b w = T true
+Held n (ErasePage address) b w = T true
+Held n MassErase b w = T true
+Held n ReadUnprotect b w = T true
+Held n (Write block count) b w = take count b ≡ blockOf n count w
+
+-- what an action takes from the block is held
+module _ (n : ℕ) (b w : List ℕ) where
+  abbrev Has : Action → Type 0
+  Has action = take (countOf action) b ≡ blockOf n (countOf action) w
+
+  erase-has : (place : Place) → Has (eraseAt place)
+  erase-has (Flash at) = refl
+  erase-has (Ram at) = refl
+  erase-has (Options at) = refl
+  erase-has Outside = refl
+
+  store-has : (count : ℕ) (access : Access) → take count b ≡ blockOf n count w → Has (storeAt access count)
+  store-has count (Denied status) h = refl
+  store-has count (InFlash at) h = h
+  store-has count (InRam at) h = h
+  store-has count (InOptions at) h = h
+
+  pub action-has : (protected : Bool) (pointer : ℕ) (pending : Pending) → Held n pending b w → Has (actionIn pending n protected pointer)
+  action-has protected pointer Nothing h = refl
+  action-has protected pointer (SetPointer address) h = by-bool (inRegion n address) (λ e. rw e) (λ e. rw e)
+  action-has true pointer (ErasePage address) h = refl
+  action-has false pointer (ErasePage address) h = erase-has (placeOf n address 1)
+  action-has true pointer MassErase h = refl
+  action-has false pointer MassErase h = refl
+  action-has true pointer ReadUnprotect h = refl
+  action-has false pointer ReadUnprotect h = refl
+  action-has protected pointer (Write block count) h = store-has count (accessOf n protected (blockAddress block count pointer) count) h
+
+-- a GETSTATUS whose command went well on every board, or one with nothing to run
+pub record Ran′ (n : ℕ) (d : Device) (b m₀ m w : List ℕ) (d′ : Device) (w′ : List ℕ) : Type 0 where
+  pub report : reportOf d (runOf n d b m .ran) .status ≡ 0
+  pub device : afterStatus d (runOf n d b m .ran) ≡ d′
+  pub alike : Alike n m₀ (runOf n d b m .memory) w′
+
+pub goes-device : (d d′ : Device) (w w′ : List ℕ) → goes d w ≡ goes d′ w′ → d ≡ d′
+goes-device d d′ w w′ e = cc
+
+pub goes-work : (d d′ : Device) (w w′ : List ℕ) → goes d w ≡ goes d′ w′ → w ≡ w′
+goes-work d d′ w w′ e = cc
+
+pub falls-not : (d : Device) (w : List ℕ) → falls ≡ goes d w → ⊥
+falls-not d w e = let z : _≡_ {A = ℕ} 0 1 = cc in omega arith
+
+-- what `reports` tells
+reports-zero : (d d′ : Device) (ran : Ran) (w w′ : List ℕ) → reports d ran w ≡ goes d′ w′ → (reportOf d ran .status ≡ 0) × (afterStatus d ran ≡ d′) × (w ≡ w′)
+reports-zero d d′ ran w w′ e =
+    by-bool (eqb (reportOf d ran .status) 0)
+    (λ z. (eqb-true _ _ z, goes-device _ _ _ _ (rw z at e), goes-work _ _ _ _ (rw z at e)))
+    (λ z. absurd (falls-not d′ w′ (rw z at e)))
+
+reports-falls : (d : Device) (ran : Ran) (w : List ℕ) → reports d ran w ≡ falls → eqb (reportOf d ran .status) 0 ≡ false
+reports-falls d ran w e =
+    by-bool (eqb (reportOf d ran .status) 0) (λ z. absurd (falls-not (afterStatus d ran) w (sym (rw z at e)))) (λ z. z)
+
+-- in mode 3 the report shows the status of the command
+module _ (d : Device) (ran : Ran) (sync : isMode 3 (d .mode) ≡ true) where
+  sync-well : reportOf d ran .status ≡ 0 → ran .status ≡ 0
+  unfolding reportOf
+  sync-well e =
+      by-bool (eqb (ran .status) 0) (λ z. eqb-true _ _ z) (λ z. rw (sync, z) at e)
+
+  sync-ill : eqb (reportOf d ran .status) 0 ≡ false → eqb (ran .status) 0 ≡ false
+  unfolding reportOf
+  sync-ill e = by-bool (eqb (ran .status) 0) (λ z. absurd (true≢false (rw (sync, z) at e))) (λ z. z)
+
+  sync-shows : eqb (ran .status) 0 ≡ false → reportOf d ran .status ≡ ran .status
+  unfolding reportOf
+  sync-shows z = rw (sync, z)
+
+module _ (n : ℕ) (d : Device) (b m₀ m w : List ℕ) (f : Form n d) (held : Held n (d .pending) b w) (s : Alike n m₀ m w) where
+  action : Action
+  action = actionOf n (readProtected n w) d
+
+  fits : Fits n action
+  unfolding action
+  fits = action-fits n (readProtected n w) d (well-formed n d f)
+
+  has : take (countOf action) b ≡ blockOf n (countOf action) w
+  unfolding action actionOf
+  has = action-has n b w (readProtected n w) (d .pointer) (d .pending) held
+
+  -- in mode 3 the board runs the action that was decided for all
+  run-acts : isMode 3 (d .mode) ≡ true → runOf n d b m ≡ run (ranOf action (d .pointer) (performedOf n action b m .status)) (performedOf n action b m .memory)
+  unfolding runOf action
+  run-acts e = rw (e, protection-same n m₀ m w s)
+
+  run-rests : isMode 3 (d .mode) ≡ false → runOf n d b m ≡ run (record { status = 0; pointer = d .pointer; reboots = false }) m
+  unfolding runOf
+  run-rests e = rw e
+
+  pub status-goes : (d′ : Device) (w′ : List ℕ) → statusMoves n d w ≡ goes d′ w′ → Ran′ n d b m₀ m w d′ w′
+  unfolding statusMoves action
+  status-goes d′ w′ e =
+      by-bool (isMode 3 (d .mode))
+      (λ y.
+      let ran : Ran = ranOf action (d .pointer) (workedOf n action w .status) in
+      let r = reports-zero d d′ ran (workedOf n action w .work) w′ (rw y at e) in
+      let well : workedOf n action w .status ≡ 0 = sync-well d ran y (r .0) in
+      let p = performs-well n b m₀ m w s action fits has well in
+      let same : runOf n d b m .ran ≡ ran = ap (λ (x : Run). x .ran) (run-acts y) ∙ ap (ranOf action (d .pointer)) (p .status ∙ sym well) in
+      record {
+        report = ap (λ (x : Ran). reportOf d x .status) same ∙ r .0;
+        device = ap (afterStatus d) same ∙ r .1;
+        alike = rw (ap (λ (x : Run). x .memory) (run-acts y), sym (r .2)) (p .alike);
+      })
+      (λ y.
+      let ran : Ran = record { status = 0; pointer = d .pointer; reboots = false } in
+      let r = reports-zero d d′ ran w w′ (rw y at e) in
+      let same : runOf n d b m .ran ≡ ran = ap (λ (x : Run). x .ran) (run-rests y) in
+      record {
+        report = ap (λ (x : Ran). reportOf d x .status) same ∙ r .0;
+        device = ap (afterStatus d) same ∙ r .1;
+        alike = rw (ap (λ (x : Run). x .memory) (run-rests y), sym (r .2)) s;
+      })
+
+  pub status-falls : ((i : ℕ) → i < optionsFrom n → getD m₀ i 0 ≡ 0) → statusMoves n d w ≡ falls → eqb (reportOf d (runOf n d b m .ran) .status) 0 ≡ false
+  unfolding statusMoves action
+  status-falls z e =
+      by-bool (isMode 3 (d .mode))
+      (λ y.
+      let ran : Ran = ranOf action (d .pointer) (workedOf n action w .status) in
+      let ill = sync-ill d ran y (reports-falls d ran (workedOf n action w .work) (rw y at e)) in
+      let p = performs-ill n b m₀ m w s z action fits has ill in
+      let same : runOf n d b m .ran ≡ ran = ap (λ (x : Run). x .ran) (run-acts y) ∙ ap (ranOf action (d .pointer)) p in
+      ap (λ (x : Ran). eqb (reportOf d x .status) 0) same ∙ rw (sync-shows d ran y ill) ill)
+      (λ y.
+      let ran : Ran = record { status = 0; pointer = d .pointer; reboots = false } in
+      let same : runOf n d b m .ran ≡ ran = ap (λ (x : Run). x .ran) (run-rests y) in
+      ap (λ (x : Ran). eqb (reportOf d x .status) 0) same ∙ reports-falls d ran w (rw y at e))

@@ -1,0 +1,129 @@
+-- A job runs on every board as it runs over the work area. Assumes nothing.
+use mathlib.Core.Path.{_≡_, refl, ap, _∙_, sym}
+use mathlib.Core.Bool.{Bool, true, false}
+use mathlib.Core.List.{List, [], _∷_}
+use Prim.Native.Nat.{ℕ, zero, suc, _+_, _-_, _≤_, _<_}
+use native.Mathlib.Omega.{arith}
+use native.Mathlib.Nat.{not-suc-le-zero, le-of-suc-le-suc}
+use lib.Dec.{T}
+use lib.ListN.{getD}
+use Rattle.board.specs.Layout.{optionsFrom}
+use Rattle.device.specs.declared.Device.{Device}
+use Rattle.device.proofs.Form.{Form}
+use Rattle.loader.specs.declared.Event.the-variants as event
+use Rattle.loader.proofs.Form.{step-form}
+use Rattle.job.specs.Event.{Event, attach, request}
+use Rattle.checker.specs.World.{World, worldOf, steppedOf, after, fails, failsAt}
+use Rattle.checker.specs.Cells.{Moved, falls, goes, Over, fell, ended, onward, moves, overOf}
+use Rattle.checker.proofs.Moves.{Held, falls-not}
+use Rattle.checker.proofs.Events.{Stands, Fitting, event-on, event-down}
+
+-- every event of the job has its data
+abbrev pub AllFit : List Event → Type 0
+AllFit [] = T true
+AllFit (e ∷ es) = Fitting e × AllFit es
+
+fell-not : (k : ℕ) (d : Device) (w : List ℕ) → fell k ≡ ended d w → ⊥
+fell-not k d w e = let z : _≡_ {A = ℕ} 0 1 = cc in omega arith
+
+ended-device : (d d′ : Device) (w w′ : List ℕ) → ended d w ≡ ended d′ w′ → d ≡ d′
+ended-device d d′ w w′ e = cc
+
+ended-work : (d d′ : Device) (w w′ : List ℕ) → ended d w ≡ ended d′ w′ → w ≡ w′
+ended-work d d′ w w′ e = cc
+
+fell-number : (k j : ℕ) → fell k ≡ fell j → k ≡ j
+fell-number k j e = cc
+
+-- by how an event moves the boards
+by-moved : {C : Type 0} (v : Moved) → (v ≡ falls → C) → ((d : Device) (w : List ℕ) → v ≡ goes d w → C) → C
+by-moved falls f g = f refl
+by-moved (goes d w) f g = g d w refl
+
+by-place : {C : Type 0} (j : ℕ) → (j ≡ 0 → C) → ((i : ℕ) → j ≡ suc i → C) → C
+by-place zero f g = f refl
+by-place (suc i) f g = g i refl
+
+-- what falls after k events has a number above k
+pub fell-above : (n : ℕ) (es : List Event) (d : Device) (w : List ℕ) (k t : ℕ) → overOf n es d w k ≡ fell t → k < t
+unfolding overOf
+fell-above n [] d w k t h = absurd (fell-not t d w (sym h))
+fell-above n (e ∷ es) d w k t h =
+    by-moved (moves n d w e)
+    (λ v. let z : suc k ≡ t = fell-number (suc k) t (rw v at h) in omega arith)
+    (λ d₁ w₁ v. let z : suc k < t = fell-above n es d₁ w₁ (suc k) t (rw v at h) in omega arith)
+
+-- one event on a board that stands where d and w say
+module _ (n : ℕ) (some : 1 ≤ n) (m₀ : List ℕ) (x : World) (d : Device) (w : List ℕ) (form : Form n d) (st : Stands n m₀ x d w) where
+  own-form : Form n (x .device)
+  own-form = rw (st .device) form
+
+  own-stands : Stands n m₀ x (x .device) w
+  own-stands = record { device = refl; alike = st .alike; held = rw (st .device) (st .held); block = st .block; reply = st .reply }
+
+  pub one-on : (e : Event) → Fitting e → (d′ : Device) (w′ : List ℕ) → moves n d w e ≡ goes d′ w′ → (fails e (steppedOf n x e) ≡ false) × Stands n m₀ (worldOf (steppedOf n x e)) d′ w′
+  one-on e f d′ w′ h = event-on n m₀ (x .device) (x .memory) (x .block) (x .reply) w own-form own-stands e f d′ w′ (ap (λ (y : Device). moves n y w e) (st .device) ∙ h)
+
+  pub one-down : (e : Event) → Fitting e → ((i : ℕ) → i < optionsFrom n → getD m₀ i 0 ≡ 0) → moves n d w e ≡ falls → fails e (steppedOf n x e) ≡ true
+  one-down e f z h = event-down n m₀ (x .device) (x .memory) (x .block) (x .reply) w own-form own-stands e f z (ap (λ (y : Device). moves n y w e) (st .device) ∙ h)
+
+  stepped-form : (e : Event) → Form n (steppedOf n x e .device)
+  unfolding steppedOf
+  stepped-form attach = step-form n (x .device) event.Attach [] (x .memory) (x .block) (x .reply) some own-form
+  stepped-form (request q) = step-form n (x .device) event.Request q (x .memory) (x .block) (x .reply) some own-form
+
+  pub one-form : (e : Event) → Fitting e → (d′ : Device) (w′ : List ℕ) → moves n d w e ≡ goes d′ w′ → Form n d′
+  one-form e f d′ w′ h = rw (one-on e f d′ w′ h .1 .device) at (stepped-form e)
+
+module _ (n : ℕ) (some : 1 ≤ n) (m₀ : List ℕ) where
+  -- where the work area reaches the end, so does every board, and cleanly
+  pub run-ends : (es : List Event) (x : World) (d : Device) (w : List ℕ) (k : ℕ) (d′ : Device) (w′ : List ℕ) → AllFit es → Form n d → Stands n m₀ x d w → overOf n es d w k ≡ ended d′ w′ → ((j : ℕ) → failsAt n es j x ≡ false) × Stands n m₀ (after n es x) d′ w′
+  unfolding overOf failsAt after
+  run-ends [] x d w k d′ w′ fit form st e = (λ j. refl, rw (sym (ended-device d d′ w w′ e), sym (ended-work d d′ w w′ e)) st)
+  run-ends (e ∷ es) x d w k d′ w′ fit form st h =
+      by-moved (moves n d w e) (λ v. absurd (fell-not (suc k) d′ w′ (rw v at h)))
+      (λ d₁ w₁ v.
+      let r = one-on n some m₀ x d w form st e (fit .0) d₁ w₁ v in
+      let f = one-form n some m₀ x d w form st e (fit .0) d₁ w₁ v in
+      let rest = run-ends es (worldOf (steppedOf n x e)) d₁ w₁ (suc k) d′ w′ (fit .1) f (r .1) (rw v at h) in
+      (first (r .0) (rest .0), rest .1))
+    where
+      first : fails e (steppedOf n x e) ≡ false → ((j : ℕ) → failsAt n es j (worldOf (steppedOf n x e)) ≡ false) → (j : ℕ) → failsAt n (e ∷ es) j x ≡ false
+      first a b zero = a
+      first a b (suc j) = b j
+
+  -- where it falls at event j, no board fails before
+  pub run-before : (es : List Event) (x : World) (d : Device) (w : List ℕ) (k j : ℕ) → AllFit es → Form n d → Stands n m₀ x d w → overOf n es d w k ≡ fell (suc (k + j)) → (i : ℕ) → i < j → failsAt n es i x ≡ false
+  unfolding overOf failsAt
+  run-before [] x d w k j fit form st h i l = refl
+  run-before (e ∷ es) x d w k j fit form st h i l =
+      by-moved (moves n d w e)
+      (λ v. let z : suc k ≡ suc (k + j) = fell-number (suc k) (suc (k + j)) (rw v at h) in absurd (omega arith))
+      (λ d₁ w₁ v.
+      let r = one-on n some m₀ x d w form st e (fit .0) d₁ w₁ v in
+      let f = one-form n some m₀ x d w form st e (fit .0) d₁ w₁ v in
+      by-place i
+      (λ z. rw z (r .0))
+      (λ i′ z.
+      let back : suc k + (j - 1) ≡ k + j = omega arith in
+      let l′ : i′ < j - 1 = omega arith in
+      rw z (run-before es (worldOf (steppedOf n x e)) d₁ w₁ (suc k) (j - 1) (fit .1) f (r .1) (rw v at h ∙ ap (λ (y : ℕ). fell (suc y)) (sym back)) i′ l′)))
+
+  -- and a board of zeros fails there
+  pub run-falls : ((i : ℕ) → i < optionsFrom n → getD m₀ i 0 ≡ 0) → (es : List Event) (x : World) (d : Device) (w : List ℕ) (k j : ℕ) → AllFit es → Form n d → Stands n m₀ x d w → overOf n es d w k ≡ fell (suc (k + j)) → failsAt n es j x ≡ true
+  unfolding overOf failsAt
+  run-falls z [] x d w k j fit form st h = absurd (fell-not (suc (k + j)) d w (sym h))
+  run-falls z (e ∷ es) x d w k j fit form st h =
+      by-moved (moves n d w e)
+      (λ v.
+      let y : suc k ≡ suc (k + j) = fell-number (suc k) (suc (k + j)) (rw v at h) in
+      let j₀ : j ≡ 0 = omega arith in
+      rw j₀ (one-down n some m₀ x d w form st e (fit .0) z v))
+      (λ d₁ w₁ v.
+      let r = one-on n some m₀ x d w form st e (fit .0) d₁ w₁ v in
+      let f = one-form n some m₀ x d w form st e (fit .0) d₁ w₁ v in
+      by-place j
+      (λ y. let late : suc k < suc (k + j) = fell-above n es d₁ w₁ (suc k) (suc (k + j)) (rw v at h) in absurd (omega arith))
+      (λ j′ y.
+      let back : k + j ≡ suc k + j′ = omega arith in
+      rw y (run-falls z es (worldOf (steppedOf n x e)) d₁ w₁ (suc k) j′ (fit .1) f (r .1) (rw v at h ∙ ap (λ (t : ℕ). fell (suc t)) back))))

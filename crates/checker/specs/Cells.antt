@@ -1,0 +1,178 @@
+-- A device of the proof, which no public promise names: what is known of every board at once. The work area holds a value
+-- and a mark for each byte of memory, and a block. A mark of 1 says that every board holds that value; a byte without it is
+-- the board's own, as it was at the start. Assumes nothing.
+use mathlib.Core.Bool.{Bool, true, false, cond, not, _&&_}
+use mathlib.Core.List.{List, [], _∷_}
+use Prim.Native.Nat.{ℕ, zero, suc, _+_, _*_}
+use lib.Dec.{eqb, ltb}
+use lib.ListN.{length, take, drop, getD, replicate}
+use Rattle.laws.specs.Bytes.{put, filled}
+use Rattle.board.specs.Layout.{pageBytes, flashFirst, flashBytes, ramFrom, ramBytes, optionsFrom, optionBytes, memoryBytes}
+use Rattle.board.specs.Protection.{readProtected, wordOf, writeProtected}
+use Rattle.request.specs.declared.Setup.{Setup}
+use Rattle.request.specs.Request.{transferBytes}
+use Rattle.request.specs.Setup.{setupOf}
+use Rattle.device.specs.declared.Mode.the-variants.{UploadIdle}
+use Rattle.device.specs.declared.Device.{Device}
+use Rattle.device.specs.declared.Ran.{Ran}
+use Rattle.device.specs.Wire.{errWRITE, isMode}
+use Rattle.device.specs.State.{started, entered, afterStatus, reportOf}
+use Rattle.decision.specs.declared.Decision.{Decision}
+use Rattle.decision.specs.declared.Decision.the-variants as decided
+use Rattle.decision.specs.declared.Command.{Command}
+use Rattle.decision.specs.Decide.{commandOf, decideOf}
+use Rattle.action.specs.declared.Access.{Access}
+use Rattle.action.specs.declared.Access.the-variants.{Denied, InFlash, InRam, InOptions}
+use Rattle.action.specs.declared.Action.{Action}
+use Rattle.action.specs.declared.Action.the-variants.{Rest, Fail, Point, Erase, EraseAll, Unprotect, ClearRam, StoreFlash, StoreRam, StoreOptions}
+use Rattle.action.specs.Access.{accessOf, blockAddress}
+use Rattle.action.specs.Action.{actionOf, ranOf}
+use Rattle.memory.specs.Flash.{each, blank, stored}
+use Rattle.memory.specs.Whole.{unprotected}
+use Rattle.job.specs.Event.{Event, attach, request, same}
+use Rattle.checker.specs.declared.Verdict.{Verdict}
+use Rattle.checker.specs.declared.Verdict.the-variants as verdict
+use Rattle.checker.specs.Verdict.{isLeft, pagesEnd}
+
+-- the work area: values, then marks, then the block
+abbrev pub blockFrom : ℕ → ℕ
+blockFrom n = memoryBytes n + memoryBytes n
+
+abbrev pub workBytes : ℕ → ℕ
+workBytes n = blockFrom n + transferBytes
+
+-- byte i is known
+abbrev pub known : ℕ → List ℕ → ℕ → Bool
+known n w i = eqb (getD w (memoryBytes n + i) 0) 1
+
+-- `count` bytes from place `from` on become known
+unfoldable pub marked : ℕ → ℕ → ℕ → List ℕ → List ℕ
+marked n from count w = filled (memoryBytes n + from) count 1 w
+
+-- the values xs from place `from` on, known
+unfoldable pub learnt : ℕ → ℕ → List ℕ → List ℕ → List ℕ
+learnt n from xs w = marked n from (length xs) (put from xs w)
+
+-- the erased test passes on every board: each byte that will be written is known, and erased
+unfoldable pub surely : ℕ → ℕ → ℕ → ℕ → List ℕ → Bool
+surely n word at count w = blank word at count w && each 1 word at count (drop (memoryBytes n + at) w)
+
+unfoldable pub pageErased : ℕ → ℕ → ℕ → List ℕ → List ℕ
+pageErased n word page w = cond (writeProtected word page) w (learnt n (page * pageBytes) (replicate pageBytes 0xFF) w)
+
+unfoldable pub pagesErased : ℕ → ℕ → ℕ → ℕ → List ℕ → List ℕ
+pagesErased n word zero page w = w
+pagesErased n word (suc count) page w = pagesErased n word count (suc page) (pageErased n word page w)
+
+-- the status of an action on every board, and what is known after it
+pub record Worked : Type 0 where
+  pub status : ℕ
+  pub work : List ℕ
+
+abbrev pub worked : ℕ → List ℕ → Worked
+worked status w = record { status = status; work = w }
+
+-- the first `count` bytes of the block
+abbrev pub blockOf : ℕ → ℕ → List ℕ → List ℕ
+blockOf n count w = take count (drop (blockFrom n) w)
+
+abbrev pub writes : ℕ → ℕ → ℕ → ℕ → List ℕ → Worked
+writes n word at count w = cond (surely n word at count w) (worked 0 (stored word at (blockOf n count w) w)) (worked errWRITE w)
+
+abbrev pub workedOf : ℕ → Action → List ℕ → Worked
+workedOf n Rest w = worked 0 w
+workedOf n (Fail status) w = worked status w
+workedOf n (Point address) w = worked 0 w
+workedOf n (Erase page) w = worked 0 (pageErased n (wordOf n w) page w)
+workedOf n EraseAll w = worked 0 (pagesErased n (wordOf n w) n 0 w)
+workedOf n Unprotect w = worked 0 (learnt n 0 (unprotected n) w)
+workedOf n ClearRam w = worked 0 (learnt n (ramFrom n) (replicate ramBytes 0) w)
+workedOf n (StoreFlash at count) w = writes n (wordOf n w) at count w
+workedOf n (StoreRam at count) w = worked 0 (learnt n at (blockOf n count w) w)
+workedOf n (StoreOptions at count) w = worked 0 (learnt n at (blockOf n count w) w)
+
+-- an event on every board: it fails on some, or all go on alike
+pub data Moved : Type 0 where
+  falls : Moved
+  goes : Device → List ℕ → Moved
+
+-- a GETSTATUS that ran something, or nothing
+abbrev pub reports : Device → Ran → List ℕ → Moved
+reports d ran w = cond (eqb (reportOf d ran .status) 0) (goes (afterStatus d ran) w) falls
+
+abbrev pub runs : ℕ → Action → Device → List ℕ → Moved
+runs n action d w = reports d (ranOf action (d .pointer) (workedOf n action w .status)) (workedOf n action w .work)
+
+unfoldable pub statusMoves : ℕ → Device → List ℕ → Moved
+statusMoves n d w =
+    cond (isMode 3 (d .mode)) (runs n (actionOf n (readProtected n w) d) d w)
+    (reports d (record { status = 0; pointer = d .pointer; reboots = false }) w)
+
+abbrev pub readMoves : Access → Device → List ℕ → Moved
+readMoves (Denied status) d w = falls
+readMoves (InFlash at) d w = goes (entered d UploadIdle) w
+readMoves (InRam at) d w = goes (entered d UploadIdle) w
+readMoves (InOptions at) d w = goes (entered d UploadIdle) w
+
+unfoldable pub readsMoves : ℕ → Device → Setup → List ℕ → Moved
+readsMoves n d s w = readMoves (accessOf n (readProtected n w) (blockAddress (s .value) (s .length) (d .pointer)) (s .length)) d w
+
+abbrev pub decisionMoves : Decision → ℕ → Device → List ℕ → List ℕ → Moved
+decisionMoves decided.Silent n d q w = falls
+decisionMoves (decided.Stall next) n d q w = falls
+decisionMoves (decided.Accept next) n d q w = goes next w
+decisionMoves (decided.Take next) n d q w = goes next (put (blockFrom n) (drop 8 q) w)
+decisionMoves (decided.Commands next count) n d q w = goes next w
+decisionMoves decided.Read n d q w = readsMoves n d (setupOf q) w
+decisionMoves decided.State n d q w = goes d w
+decisionMoves decided.Status n d q w = statusMoves n d w
+
+unfoldable pub moves : ℕ → Device → List ℕ → Event → Moved
+moves n d w attach = goes started w
+moves n d w (request q) = decisionMoves (decideOf d (setupOf q) (commandOf (drop 8 q))) n d q w
+
+-- the events of a job: the first that falls, counted from 1 after k, or how all boards end
+pub data Over : Type 0 where
+  fell : ℕ → Over
+  ended : Device → List ℕ → Over
+
+abbrev pub onward : Moved → (Device → List ℕ → Over) → ℕ → Over
+onward falls next k = fell (suc k)
+onward (goes d w) next k = next d w
+
+unfoldable pub overOf : ℕ → List Event → Device → List ℕ → ℕ → Over
+overOf n [] d w k = ended d w
+overOf n (e ∷ es) d w k = onward (moves n d w e) (λ d′ w′. overOf n es d′ w′ (suc k)) k
+
+-- flash offset f is wrong on some board
+unfoldable pub suspect : ℕ → List ℕ → List ℕ → ℕ → Bool
+suspect n image w f =
+    cond (ltb f (length image)) (not (known n w f && eqb (getD w f 0) (getD image f 0)))
+    (cond (ltb f (pagesEnd image)) (not (known n w f && eqb (getD w f 0) 0xFF))
+    (known n w f))
+
+-- the lowest of `count` numbers from i on at which the test holds, or the number behind them
+unfoldable pub lowestFrom : (ℕ → Bool) → ℕ → ℕ → ℕ
+lowestFrom test zero i = i
+lowestFrom test (suc count) i = cond (test i) i (lowestFrom test count (suc i))
+
+abbrev pub flashVerdict : ℕ → ℕ → Verdict
+flashVerdict n f = cond (ltb f (flashBytes n)) (verdict.Flash f) verdict.Pass
+
+unfoldable pub endVerdict : ℕ → List ℕ → List ℕ → Device → List ℕ → Verdict
+endVerdict n image card d w =
+    cond (not (isLeft (d .mode))) (verdict.End 1)
+    (cond (not (eqb (d .pointer) flashFirst)) (verdict.End 2)
+    (cond (not (same (take optionBytes (drop (optionsFrom n) w)) card)) (verdict.End 3)
+    (flashVerdict n (lowestFrom (suspect n image w) (flashBytes n) 0))))
+
+abbrev pub overVerdict : ℕ → List ℕ → List ℕ → Over → Verdict
+overVerdict n image card (fell k) = verdict.Event k
+overVerdict n image card (ended d w) = endVerdict n image card d w
+
+-- what is known at the start: the options, and nothing else
+unfoldable pub begun : ℕ → List ℕ → List ℕ → List ℕ
+begun n card w = learnt n (optionsFrom n) card (filled (memoryBytes n) (memoryBytes n) 0 w)
+
+unfoldable pub verdictOf : ℕ → List Event → List ℕ → List ℕ → List ℕ → Verdict
+verdictOf n es image card w = overVerdict n image card (overOf n es started (begun n card w) 0)

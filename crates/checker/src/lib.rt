@@ -1,0 +1,15 @@
+// The job checker.
+ghost use mathlib.Core.Path.{_≡_};
+use refusal::Refusal;
+
+// What is to be said of a job.
+pub enum Verdict {
+    Pass,
+    // The event, from 1, that fails on some board.
+    Event(usize),
+    // The end condition that fails.
+    End(u8),
+    // The lowest flash offset that is wrong on some board.
+    Flash(usize),
+    Refused(Refusal),
+}
