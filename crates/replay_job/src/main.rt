@@ -6,6 +6,7 @@ mod head;
 mod line;
 mod walk;
 
+use head::Vector;
 use libc::STDERR_FILENO;
 use libc::STDOUT_FILENO;
 
@@ -42,22 +43,26 @@ fn load(fd: i32, text: &mut [u8], body: usize) {
     }
 }
 
+// Makes the input of a vector.
+fn prepare(fd: i32, vector: Vector, text: &mut [u8]) {
+    load(fd, text, vector.body);
+    bytes::repeat(text, vector.body, vector.size);
+    bytes::poke(text, vector.place, vector.byte);
+}
+
 // Makes the input and the buffer of a vector, and lets it happen.
-fn turn(fd: i32, head: &head::Head, text: &mut [u8], out: &mut [u8]) {
-    let body = head::body(head);
-    let size = head::size(head);
-    let room = head::room(head);
+fn turn(fd: i32, vector: Vector, text: &mut [u8], out: &mut [u8]) {
+    let size = vector.size;
+    let room = vector.room;
     if text.len() < size {
         return;
     }
     if out.len() < room {
         return;
     }
-    load(fd, text, body);
-    bytes::repeat(text, body, size);
-    bytes::poke(text, head::place(head), head::byte(head));
-    bytes::ramp(out, head::seed(head));
-    perform(head::kind(head), &text[0..size], &mut out[0..room]);
+    prepare(fd, vector, text);
+    bytes::ramp(out, vector.seed);
+    perform(vector.kind, &text[0..size], &mut out[0..room]);
 }
 
 // How many vectors there were.
@@ -67,7 +72,7 @@ fn replay(fd: i32) -> u64 {
     let mut head = [0u8; head::SIZE];
     let mut left = MOST_VECTORS;
     while left > 0 && next(fd, &mut head) {
-        turn(fd, &head, &mut text, &mut out);
+        turn(fd, head::parse(&head), &mut text, &mut out);
         left -= 1;
     }
     MOST_VECTORS - left

@@ -18,6 +18,9 @@ loop-holds c = search needs
 next-requires : tie.Need-next-requires Inv-loop μ-loop
 next-requires c κs = search needs
 
+parse-requires : tie.Need-parse-requires Inv-loop μ-loop
+parse-requires c κs = search needs
+
 slice-aggregate-turn : tie.Need-slice-aggregate-turn Inv-loop μ-loop
 slice-aggregate-turn c = search needs
 
@@ -50,6 +53,7 @@ replay-spec =
     μ-loop
     loop-holds
     next-requires
+    parse-requires
     slice-aggregate-turn
     slice-aggregate-turn-2
     turn-requires
