@@ -13,10 +13,10 @@ use Rattle.job.specs.declared.Done.the-variants.{Bytes, Refused}
 use Rattle.job.specs.Event.{Event, proper, textOf, packedOf}
 use Rattle.job.specs.Text.{limit, linesOf, firstBad, eventsOf}
 use Rattle.job.specs.Packed.{packs, unpacked}
-use Rattle.job.specs.Calls.{left, readOf, writeOf}
+use Rattle.job.specs.Calls.{told, left, measureOf, readOf, writeOf}
 use Rattle.job.proofs.EventText.{text-good, text-events, good-text, good-proper, Names, named-from-one}
 use Rattle.job.proofs.EventPacked.{packed-packs, packed-events, packs-packed, packs-proper}
-use Rattle.job.proofs.Answers.{left-injective, read-good, read-bad, read-bytes, write-good, write-bytes, delivers, never-ten}
+use Rattle.job.proofs.Answers.{told-injective, left-injective, read-good, read-bad, read-bytes, write-good, write-bytes, delivers, never-ten}
 
 -- Two lists of proper events with the same text are the same list.
 pub text-of-injective : (es fs : List Event) → proper es ≡ true → proper fs ≡ true → textOf es ≡ textOf fs → es ≡ fs
@@ -72,7 +72,10 @@ writing-what-was-read t out back n room e =
     ∙ write-good (packedOf (eventsOf t)) back (packed-packs (eventsOf t) q) (rw r (w .0))
     ∙ delivers (textOf (unpacked (packedOf (eventsOf t)))) t back r room
 
--- Any two outcomes that a promise of the reader or of the writer allows are equal.
+-- Any two outcomes that a promise of `measure`, of the reader or of the writer allows are equal.
+pub one-measure : (t : List ℕ) (r s : Done) → told r ≡ told (measureOf t) → told s ≡ told (measureOf t) → r ≡ s
+one-measure t r s a b = told-injective r s (a ∙ sym b)
+
 pub one-reading : (t out x y : List ℕ) (r s : Done) → left r x ≡ readOf t out → left s y ≡ readOf t out → (r ≡ s) × (x ≡ y)
 one-reading t out x y r s a b = left-injective r s x y (a ∙ sym b)
 

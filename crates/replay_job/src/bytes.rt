@@ -1,7 +1,7 @@
 // What a vector makes of its buffers before the call, and a digest of them after it.
 
 // The first `body` bytes over and over, up to place `end`.
-pub fn repeat(text: &mut [u8], body: usize, end: usize) {
+pub(crate) fn repeat(text: &mut [u8], body: usize, end: usize) {
     if body == 0 {
         return;
     }
@@ -16,14 +16,14 @@ pub fn repeat(text: &mut [u8], body: usize, end: usize) {
 }
 
 // Another byte at a place, if there is such a place.
-pub fn poke(text: &mut [u8], place: usize, byte: u8) {
+pub(crate) fn poke(text: &mut [u8], place: usize, byte: u8) {
     if place < text.len() {
         text[place] = byte;
     }
 }
 
 // Bytes that grow by 7.
-pub fn ramp(out: &mut [u8], seed: u8) {
+pub(crate) fn ramp(out: &mut [u8], seed: u8) {
     let mut byte = seed;
     let mut i = 0;
     while i < out.len() {
@@ -34,7 +34,7 @@ pub fn ramp(out: &mut [u8], seed: u8) {
 }
 
 // A digest with one more number in it.
-pub fn mix(digest: u32, number: usize) -> u32 {
+pub(crate) fn mix(digest: u32, number: usize) -> u32 {
     ((digest as u64 * 257 + (number % 4294967291) as u64 + 1) % 4294967291) as u32
 }
 
@@ -42,7 +42,7 @@ fn wide(byte: u8) -> usize {
     byte as usize
 }
 
-pub fn digest(bytes: &[u8]) -> u32 {
+pub(crate) fn digest(bytes: &[u8]) -> u32 {
     let mut digest = 1;
     let mut i = 0;
     while i < bytes.len() {

@@ -22,7 +22,7 @@ fn number(a: u8, b: u8, c: u8, d: u8) -> usize {
     a as usize + b as usize * 256 + c as usize * 65536 + d as usize * 16777216
 }
 
-pub fn parse(head: &Head) -> Vector {
+pub(crate) fn parse(head: &Head) -> Vector {
     let body = number(head[2], head[3], 0, 0);
     let size = number(head[4], head[5], head[6], head[7]);
     let room = number(head[8], head[9], head[10], head[11]);

@@ -23,7 +23,7 @@ fn count(done: Done) -> u64 {
     }
 }
 
-pub fn write(letter: &[u8], a: u64, b: u64, c: u64, d: u64) {
+pub(crate) fn write(letter: &[u8], a: u64, b: u64, c: u64, d: u64) {
     io::write_all(STDOUT_FILENO, letter);
     io::print_decimal(STDOUT_FILENO, a);
     io::write_all(STDOUT_FILENO, b" ");
@@ -36,7 +36,7 @@ pub fn write(letter: &[u8], a: u64, b: u64, c: u64, d: u64) {
 }
 
 // What a call answered, and what it left in its buffer.
-pub fn print(letter: &[u8], done: Done, out: &[u8]) {
+pub(crate) fn print(letter: &[u8], done: Done, out: &[u8]) {
     write(
         letter,
         number(done),

@@ -44,7 +44,7 @@ fn met_bad(walk: Walk) -> u64 {
     if walk.over == 2 { 1 } else { 0 }
 }
 
-pub fn print(text: &[u8]) {
+pub(crate) fn print(text: &[u8]) {
     let mut walk = Walk {
         at: 0,
         events: 0,
