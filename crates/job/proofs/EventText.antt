@@ -1,15 +1,14 @@
 -- Events and their text: each gives the other back, and the number of the first malformed line. Assumes nothing.
 use mathlib.Core.Path.{_≡_, refl, ap, ap₂, _∙_, sym}
-use mathlib.Core.Bool.{Bool, true, false, cond, _&&_, true≢false}
+use mathlib.Core.Bool.{true, false, _&&_}
 use mathlib.Core.List.{List, [], _∷_, _++_, append-assoc}
-use Prim.Native.Nat.{ℕ, zero, suc, _+_, _-_, _*_, _≤_, _<_}
+use Prim.Native.Nat.{ℕ, zero, suc, _-_, _≤_, _<_}
 use native.Mathlib.Omega.{arith}
 use native.Mathlib.Nat.{not-suc-le-zero, le-of-suc-le-suc}
 use lib.Dec.{eqb}
 use lib.ListN.{length, take, drop, getD, length-append, take-append-drop}
 use lib.Seq.{length-take-le, drop-append-seam}
-use borrow.Author.Tests.{eq-eqb, ne-eqb}
-use Rattle.laws.proofs.Split.{by-bool, by-eq, and-true}
+use Rattle.laws.proofs.Split.{by-bool, and-true}
 use Rattle.request.specs.Setup.{fitsOf}
 use Rattle.hex.specs.Hex.{bytesOf, allBytes}
 use Rattle.hex.proofs.Fields.{bytes-are}

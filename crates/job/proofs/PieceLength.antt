@@ -1,20 +1,18 @@
 -- The length of the first packed event by the tests that decide it. Assumes nothing.
-use mathlib.Core.Path.{_≡_, refl, ap, ap₂, _∙_, sym}
-use mathlib.Core.Bool.{Bool, true, false, cond, _&&_}
-use mathlib.Core.List.{List, [], _∷_, _++_}
-use Prim.Native.Nat.{ℕ, zero, suc, _+_, _-_, _*_, _≤_, _<_}
+use mathlib.Core.Path.{_≡_, refl, ap, _∙_, sym}
+use mathlib.Core.Bool.{Bool, true, false, _&&_}
+use mathlib.Core.List.{List, [], _∷_}
+use Prim.Native.Nat.{ℕ, suc, _+_, _-_, _≤_, _<_}
 use native.Mathlib.Omega.{arith}
-use lib.Dec.{eqb, ltb, leb}
-use lib.ListN.{length, take, drop, getD, take-append-drop, length-take}
+use lib.Dec.{leb}
+use lib.ListN.{length, take, drop, getD, take-append-drop}
 use lib.Seq.{length-take-le, take-all}
-use borrow.Author.Tests.{eq-eqb, ne-eqb, lt-leb, lt-ltb, le-ltb}
+use borrow.Author.Tests.{ne-eqb}
 use Rattle.laws.proofs.Bytes.{rest-is}
-use Rattle.laws.proofs.Split.{by-bool, by-lt, and-true}
+use Rattle.laws.proofs.Split.{by-bool, by-lt}
 use Rattle.request.specs.Setup.{setupOf, dataLength, fitsOf}
-use Rattle.request.proofs.Lengths.{fits-short}
-use Rattle.job.specs.Event.{Event, attach, request, fits, packOf, lineOf, same}
-use Rattle.job.specs.Text.{limit}
-use Rattle.job.specs.Packed.{pieceSize, firstPiece, eventIn, wellPacked, pieceLength, lineSize, capped}
+use Rattle.job.specs.Event.{fits, packOf, same}
+use Rattle.job.specs.Packed.{pieceSize, firstPiece, eventIn, wellPacked, pieceLength}
 use Rattle.job.proofs.FirstLine.{same-refl}
 use Rattle.job.proofs.Formed.{fits-if, setup-front}
 
