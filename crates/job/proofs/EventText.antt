@@ -70,12 +70,16 @@ proper-parts e es h =
     let q = and-true (fits e) (inBytes e) (p .0) in
     (q .0, q .1, p .1)
 
-pub text-good : (es : List Event) (k : ℕ) → proper es ≡ true → badFrom k (linesOf (textOf es)) ≡ 0
+text-good : (es : List Event) (k : ℕ) → proper es ≡ true → badFrom k (linesOf (textOf es)) ≡ 0
 unfolding textOf badFrom linesOf
 text-good [] k h = refl
 text-good (e ∷ es) k h =
     let p = proper-parts e es h in
     rw (lines-line e (textOf es), line-formed e (p .0) (p .1)) (text-good es (suc k) (p .2))
+
+pub text-clean : (es : List Event) → proper es ≡ true → firstBad (textOf es) ≡ 0
+unfolding firstBad
+text-clean es h = text-good es 1 h
 
 pub text-events : (es : List Event) → proper es ≡ true → eventsOf (textOf es) ≡ es
 unfolding textOf eventsOf eventsIn linesOf

@@ -8,17 +8,13 @@ use Rattle.laws.specs.Bytes.{put}
 use Rattle.laws.proofs.Append.{take-put}
 use Rattle.hex.specs.Hex.{allBytes}
 use Rattle.job.specs.declared.Done.the-variants.{Bytes}
-use Rattle.job.specs.Event.{Event, proper, textOf, packedOf}
-use Rattle.job.specs.Text.{firstBad, eventsOf}
+use Rattle.job.specs.Event.{proper, textOf, packedOf}
+use Rattle.job.specs.Text.{eventsOf}
 use Rattle.job.specs.Packed.{unpacked}
 use Rattle.job.specs.Calls.{left, readOf, writeOf}
-use Rattle.job.proofs.EventText.{text-good, text-events, good-text, good-proper}
+use Rattle.job.proofs.EventText.{text-clean, text-events, good-text, good-proper}
 use Rattle.job.proofs.EventPacked.{packed-packs, packed-events, packs-packed, packs-proper}
 use Rattle.job.proofs.Answers.{read-good, read-bytes, write-good, write-bytes, delivers}
-
-clean : (es : List Event) → proper es ≡ true → firstBad (textOf es) ≡ 0
-unfolding firstBad
-clean es p = text-good es 1 p
 
 pub read-written : (p out back : List ℕ) (n : ℕ) → allBytes p ≡ true → length p ≤ length back → writeOf p out .answer ≡ 0 ∷ n ∷ [] → readOf (take n (writeOf p out .buffer)) back ≡ left (Bytes (length p)) (put 0 p back)
 read-written p out back n y room e =
@@ -28,7 +24,7 @@ read-written p out back n y room e =
     let t : take n (writeOf p out .buffer) ≡ textOf (unpacked p) = ap₂ take (w .2) (w .3) ∙ take-put (textOf (unpacked p)) out in
     let r : packedOf (eventsOf (textOf (unpacked p))) ≡ p = ap packedOf (text-events (unpacked p) q) ∙ k in
     ap (λ (x : List ℕ). readOf x back) t
-    ∙ read-good (textOf (unpacked p)) back (w .1) (clean (unpacked p) q)
+    ∙ read-good (textOf (unpacked p)) back (w .1) (text-clean (unpacked p) q)
     ∙ delivers (packedOf (eventsOf (textOf (unpacked p)))) p back r room
 
 pub write-read : (t out back : List ℕ) (n : ℕ) → length t ≤ length back → readOf t out .answer ≡ 0 ∷ n ∷ [] → writeOf (take n (readOf t out .buffer)) back ≡ left (Bytes (length t)) (put 0 t back)

@@ -13,7 +13,7 @@ use Rattle.job.specs.Event.{Event, proper, textOf, packedOf}
 use Rattle.job.specs.Text.{limit, linesOf, firstBad, eventsOf}
 use Rattle.job.specs.Packed.{unpacked}
 use Rattle.job.specs.Calls.{told, left, measureOf, readOf, writeOf}
-use Rattle.job.proofs.EventText.{text-good, text-events, good-text, good-proper, Names, named-from-one}
+use Rattle.job.proofs.EventText.{text-clean, text-events, good-text, good-proper, Names, named-from-one}
 use Rattle.job.proofs.EventPacked.{packed-events}
 use Rattle.job.proofs.Answers.{told-injective, left-injective, read-bad, never-ten}
 use Rattle.job.proofs.RoundTrip.{read-written, write-read}
@@ -28,8 +28,7 @@ packed-of-injective es fs p q e = sym (packed-events es p) ∙ ap unpacked e ∙
 
 -- The text of a list of proper events has no malformed line.
 pub events-text-well-formed : (t : List ℕ) (es : List Event) → proper es ≡ true → textOf es ≡ t → firstBad t ≡ 0
-unfolding firstBad
-events-text-well-formed t es p e = ap firstBad (sym e) ∙ text-good es 1 p
+events-text-well-formed t es p e = ap firstBad (sym e) ∙ text-clean es p
 
 -- A text without one is the text of its events, which are proper.
 pub well-formed-spells : (t : List ℕ) → firstBad t ≡ 0 → (proper (eventsOf t) ≡ true) × (textOf (eventsOf t) ≡ t)
