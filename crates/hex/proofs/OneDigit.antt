@@ -1,16 +1,11 @@
 -- Laws of a digit: what `valueOf` is in each range, and that value and digit undo each other. Assumes nothing.
-use mathlib.Core.Path.{_≡_, refl, ap, _∙_, sym}
-use mathlib.Core.Bool.{Bool, true, false, cond, _&&_}
+use mathlib.Core.Path.{_≡_, ap, _∙_, sym}
 use Prim.Native.Nat.{ℕ, _+_, _-_, _*_, _/_, _%_, _≤_, _<_}
 use native.Mathlib.Omega.{arith}
-use lib.Dec.{leb, ltb}
+use lib.Dec.{leb}
 use borrow.Author.Tests.{le-leb, lt-leb, lt-ltb, le-ltb}
-use Rattle.laws.proofs.Split.{by-lt}
+use Rattle.laws.proofs.Split.{by-lt, and-right-false}
 use Rattle.hex.specs.Hex.{valueOf, digitOf, byteOf}
-
-and-false : (x : Bool) → (x && false) ≡ false
-and-false true = refl
-and-false false = refl
 
 pub value-low : (d : ℕ) → 48 ≤ d → d < 58 → valueOf d ≡ d - 48
 unfolding valueOf
@@ -23,7 +18,7 @@ unfolding valueOf
 value-high d h k =
     let n : 57 < d = omega arith in
     let m : d ≤ 70 = omega arith in
-    rw (lt-leb d 57 n, and-false (leb 48 d), le-leb 65 d h, le-leb d 70 m)
+    rw (lt-leb d 57 n, and-right-false (leb 48 d), le-leb 65 d h, le-leb d 70 m)
 
 pub value-below : (d : ℕ) → d < 48 → valueOf d ≡ 16
 unfolding valueOf
@@ -33,13 +28,13 @@ value-below d h =
 
 pub value-between : (d : ℕ) → 58 ≤ d → d < 65 → valueOf d ≡ 16
 unfolding valueOf
-value-between d h k = rw (lt-leb d 57 h, and-false (leb 48 d), lt-leb 65 d k)
+value-between d h k = rw (lt-leb d 57 h, and-right-false (leb 48 d), lt-leb 65 d k)
 
 pub value-above : (d : ℕ) → 71 ≤ d → valueOf d ≡ 16
 unfolding valueOf
 value-above d h =
     let n : 57 < d = omega arith in
-    rw (lt-leb d 57 n, and-false (leb 48 d), lt-leb d 70 h, and-false (leb 65 d))
+    rw (lt-leb d 57 n, and-right-false (leb 48 d), lt-leb d 70 h, and-right-false (leb 65 d))
 
 pub digit-low : (x : ℕ) → x % 16 < 10 → digitOf x ≡ x % 16 + 48
 unfolding digitOf

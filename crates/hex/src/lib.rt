@@ -15,10 +15,10 @@ pub fn value(digit: u8) -> u8
         }
         return digit - 48;
     }
-    if digit < 65 {
-        return 16;
+    if 64 < digit && digit < 71 {
+        return digit - 55;
     }
-    if digit < 71 { digit - 55 } else { 16 }
+    16
 }
 
 // The digit of the low half of a byte.

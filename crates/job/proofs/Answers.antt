@@ -1,17 +1,17 @@
 -- An answer's numbers tell which answer it is, and what each call gives in each case. Assumes nothing.
-use mathlib.Core.Path.{_≡_, refl, ap, ap₂, _∙_, sym}
-use mathlib.Core.Bool.{Bool, true, false, cond}
+use mathlib.Core.Path.{_≡_, ap, ap₂, _∙_, sym}
+use mathlib.Core.Bool.{true, false}
 use mathlib.Core.List.{List, [], _∷_}
 use Prim.Native.Nat.{ℕ, _≤_, _<_}
 use native.Mathlib.Omega.{arith}
-use lib.Dec.{eqb, ltb, leb}
+use lib.Dec.{leb}
 use lib.ListN.{length, getD}
-use borrow.Author.Tests.{eq-eqb, ne-eqb, lt-ltb, le-ltb, le-leb, lt-leb, ltb-false, leb-true, eqb-true}
+use borrow.Author.Tests.{eq-eqb, ne-eqb, lt-ltb, le-ltb, le-leb, lt-leb}
 use Rattle.laws.specs.Bytes.{put}
 use Rattle.laws.proofs.Split.{by-bool, by-lt, by-eq}
 use Rattle.refusal.specs.declared.Refusal.{Refusal}
 use Rattle.refusal.specs.declared.Refusal.the-variants.{Text, Line, Output, Request}
-use Rattle.refusal.specs.Refusal.{numberOf, lineOf}
+use Rattle.refusal.specs.Refusal.{numberOf}
 use Rattle.refusal.proofs.Numbers.{refusal-injective, number-some}
 use Rattle.job.specs.declared.Done.{Done}
 use Rattle.job.specs.declared.Done.the-variants.{Bytes, Refused}

@@ -1,15 +1,14 @@
 -- Events and their packed list: each gives the other back. Assumes nothing.
 use mathlib.Core.Path.{_≡_, refl, ap, ap₂, _∙_, sym}
-use mathlib.Core.Bool.{Bool, true, false, cond, _&&_}
-use mathlib.Core.List.{List, [], _∷_, _++_, append-assoc}
-use Prim.Native.Nat.{ℕ, zero, suc, _+_, _-_, _*_, _≤_, _<_}
+use mathlib.Core.Bool.{true}
+use mathlib.Core.List.{List, [], _∷_, _++_}
+use Prim.Native.Nat.{ℕ, zero, suc, _+_, _-_, _≤_, _<_}
 use native.Mathlib.Omega.{arith}
 use lib.Dec.{eqb}
 use lib.ListN.{length, take, drop, getD, length-append, take-append-drop}
-use lib.Seq.{take-append-seam, drop-append-seam, take-nil, drop-nil}
-use borrow.Author.Tests.{eq-eqb, ne-eqb}
-use Rattle.laws.proofs.Split.{by-bool, by-eq, and-true}
-use Rattle.request.specs.Setup.{setupOf, dataLength, fitsOf}
+use lib.Seq.{take-append-seam, drop-append-seam}
+use Rattle.laws.proofs.Split.{by-bool, and-true}
+use Rattle.request.specs.Setup.{setupOf, dataLength}
 use Rattle.hex.specs.Hex.{allBytes}
 use Rattle.job.specs.Event.{Event, attach, request, fits, inBytes, proper, packOf, packedOf, same}
 use Rattle.job.specs.Packed.{pieceSize, firstPiece, piecesAfter, eventIn, wellPacked, allPacked, eventsAmong, packs, unpacked}

@@ -1,15 +1,14 @@
 -- Events and their text: each gives the other back, and the number of the first malformed line. Assumes nothing.
 use mathlib.Core.Path.{_≡_, refl, ap, ap₂, _∙_, sym}
-use mathlib.Core.Bool.{Bool, true, false, cond, _&&_, true≢false}
+use mathlib.Core.Bool.{true, false, _&&_}
 use mathlib.Core.List.{List, [], _∷_, _++_, append-assoc}
-use Prim.Native.Nat.{ℕ, zero, suc, _+_, _-_, _*_, _≤_, _<_}
+use Prim.Native.Nat.{ℕ, zero, suc, _-_, _≤_, _<_}
 use native.Mathlib.Omega.{arith}
 use native.Mathlib.Nat.{not-suc-le-zero, le-of-suc-le-suc}
 use lib.Dec.{eqb}
 use lib.ListN.{length, take, drop, getD, length-append, take-append-drop}
 use lib.Seq.{length-take-le, drop-append-seam}
-use borrow.Author.Tests.{eq-eqb, ne-eqb}
-use Rattle.laws.proofs.Split.{by-bool, by-eq, and-true}
+use Rattle.laws.proofs.Split.{by-bool, and-true}
 use Rattle.request.specs.Setup.{fitsOf}
 use Rattle.hex.specs.Hex.{bytesOf, allBytes}
 use Rattle.hex.proofs.Fields.{bytes-are}
@@ -71,12 +70,16 @@ proper-parts e es h =
     let q = and-true (fits e) (inBytes e) (p .0) in
     (q .0, q .1, p .1)
 
-pub text-good : (es : List Event) (k : ℕ) → proper es ≡ true → badFrom k (linesOf (textOf es)) ≡ 0
+text-good : (es : List Event) (k : ℕ) → proper es ≡ true → badFrom k (linesOf (textOf es)) ≡ 0
 unfolding textOf badFrom linesOf
 text-good [] k h = refl
 text-good (e ∷ es) k h =
     let p = proper-parts e es h in
     rw (lines-line e (textOf es), line-formed e (p .0) (p .1)) (text-good es (suc k) (p .2))
+
+pub text-clean : (es : List Event) → proper es ≡ true → firstBad (textOf es) ≡ 0
+unfolding firstBad
+text-clean es h = text-good es 1 h
 
 pub text-events : (es : List Event) → proper es ≡ true → eventsOf (textOf es) ≡ es
 unfolding textOf eventsOf eventsIn linesOf

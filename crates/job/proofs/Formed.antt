@@ -1,21 +1,21 @@
 -- When the first line of a text is well formed, and which event it spells. Assumes nothing.
 use mathlib.Core.Path.{_≡_, refl, ap, ap₂, _∙_, sym}
-use mathlib.Core.Bool.{Bool, true, false, cond, _&&_, true≢false, false≢true}
-use mathlib.Core.List.{List, [], _∷_, _++_, append-assoc, append-nil}
-use Prim.Native.Nat.{ℕ, zero, suc, _+_, _-_, _*_, _/_, _≤_, _<_}
+use mathlib.Core.Bool.{true}
+use mathlib.Core.List.{List, [], _∷_, _++_, append-assoc}
+use Prim.Native.Nat.{ℕ, zero, suc, _+_, _-_, _*_, _≤_, _<_}
 use native.Mathlib.Omega.{arith}
 use lib.Dec.{eqb, ltb, leb}
-use lib.ListN.{length, take, drop, getD, length-append, length-drop, take-append-drop, List·getD-append}
+use lib.ListN.{length, take, drop, getD, length-append, take-append-drop, List·getD-append}
 use lib.Seq.{length-take-le, take-at, drop-at}
-use borrow.Author.Tests.{eqb-true, leb-true, lt-ltb, ltb-true, eq-eqb, ne-eqb, le-leb}
-use Rattle.laws.proofs.Split.{by-bool, by-eq, and-true}
+use borrow.Author.Tests.{eqb-true, leb-true, eq-eqb, ne-eqb, le-leb}
+use Rattle.laws.proofs.Split.{and-true}
 use Rattle.request.specs.Setup.{setupOf, dataLength, fitsOf}
-use Rattle.hex.specs.Hex.{hexOf, bytesOf, allDigits, allBytes}
-use Rattle.hex.proofs.Fields.{bytes-are, bytes-hex, bytes-length}
-use Rattle.job.specs.Event.{Event, attach, request, fits, inBytes, lineOf, same}
+use Rattle.hex.specs.Hex.{bytesOf, allBytes}
+use Rattle.hex.proofs.Fields.{bytes-are, bytes-hex}
+use Rattle.job.specs.Event.{request, fits, lineOf, same}
 use Rattle.job.specs.Text.{firstLine, eventOf, wellFormed}
-use Rattle.job.proofs.Spelling.{spelled, Spelled, spelled-facts, is-spelled}
-use Rattle.job.proofs.FirstLine.{same-refl, same-eq, first-rest, first-kind, first-spelled, first-attach}
+use Rattle.job.proofs.Spelling.{spelled, Spelled, spelled-facts}
+use Rattle.job.proofs.FirstLine.{same-refl, same-eq, first-rest, first-kind, first-spelled}
 
 -- a request that fits has its setup, and the data that the setup asks for
 pub fits-long : (q : List ℕ) → fitsOf q ≡ true → 8 ≤ length q

@@ -13,4 +13,5 @@ pub mod SpellLine
 pub mod SpellLoop
 pub mod WalkEvents
 pub mod Answers
+pub mod RoundTrip
 pub mod Theorems

@@ -1,20 +1,19 @@
 -- The length of the first line by the tests that decide it. Assumes nothing.
-use mathlib.Core.Path.{_≡_, refl, ap, ap₂, _∙_, sym, subst}
-use mathlib.Core.Bool.{Bool, true, false, cond, _&&_, true≢false}
+use mathlib.Core.Path.{_≡_, refl, ap, ap₂, _∙_, sym}
+use mathlib.Core.Bool.{true, false, true≢false}
 use mathlib.Core.List.{List, [], _∷_, _++_}
-use Prim.Native.Nat.{ℕ, zero, suc, _+_, _-_, _*_, _/_, _%_, _≤_, _<_}
+use Prim.Native.Nat.{ℕ, _+_, _-_, _*_, _/_, _%_, _≤_, _<_}
 use native.Mathlib.Omega.{arith}
-use lib.Dec.{eqb}
 use lib.ListN.{length, take, drop, getD, length-append, length-drop}
 use lib.Seq.{length-take-le}
 use borrow.Author.Tests.{eq-eqb}
 use Rattle.laws.proofs.Split.{by-bool, and-true}
-use Rattle.request.specs.Setup.{setupOf, dataLength, fitsOf}
-use Rattle.hex.specs.Hex.{hexOf, bytesOf, allDigits, allBytes}
+use Rattle.request.specs.Setup.{setupOf, dataLength}
+use Rattle.hex.specs.Hex.{bytesOf, allDigits}
 use Rattle.hex.proofs.Fields.{bytes-are, bytes-length, digits-hex}
-use Rattle.job.specs.Event.{Event, attach, request, fits, lineOf, same}
+use Rattle.job.specs.Event.{attach, fits, lineOf, same}
 use Rattle.job.specs.Text.{firstLine, eventOf, wellFormed, lineLength}
-use Rattle.job.proofs.Spelling.{spelled, is-spelled}
+use Rattle.job.proofs.Spelling.{is-spelled}
 use Rattle.job.proofs.FirstLine.{same-refl, same-eq, first-rest, first-kind, first-length, first-attach}
 use Rattle.job.proofs.Formed.{fits-if, setup-front, Asks, asks, asks-facts, asks-formed, asks-length, asks-setup, asks-data}
 

@@ -1,25 +1,21 @@
 -- Packing a line and packing a text: what each step leaves in the buffer. Assumes nothing.
-use mathlib.Core.Path.{_≡_, refl, ap, ap₂, _∙_, sym}
-use mathlib.Core.Bool.{Bool, true, false}
+use mathlib.Core.Path.{_≡_, ap, ap₂, _∙_, sym}
 use mathlib.Core.List.{List, [], _∷_, _++_}
-use Prim.Native.Nat.{ℕ, zero, suc, _+_, _-_, _*_, _/_, _≤_, _<_}
+use Prim.Native.Nat.{ℕ, suc, _+_, _-_, _*_, _≤_, _<_}
 use native.Mathlib.Omega.{arith}
 use native.Mathlib.Numerals.{add-one}
-use lib.Dec.{eqb, leb}
-use lib.ListN.{length, take, drop, getD, set, length-append, length-set, length-drop, drop-of-length-le}
+use lib.ListN.{length, take, drop, set, length-append, length-set}
 use lib.Seq.{sets, length-sets}
-use borrow.Author.Tests.{lt-leb, le-leb}
 use Rattle.laws.specs.Bytes.{put}
-use Rattle.laws.proofs.Bytes.{sets-put, rest-is}
+use Rattle.laws.proofs.Bytes.{sets-put}
 use Rattle.laws.proofs.Append.{sets-append, part-put}
 use Rattle.request.specs.Setup.{setupOf, dataLength}
 use Rattle.hex.specs.Hex.{bytesOf}
 use Rattle.hex.proofs.Fields.{bytes-hex}
-use Rattle.job.specs.Event.{Event, attach, request, packOf, packedOf}
-use Rattle.job.specs.Text.{firstLine, linesOf, eventOf, wellFormed, packedSize, badFrom, firstBad, eventsIn, eventsOf}
-use Rattle.job.proofs.FirstLine.{first-some, first-length, lines-first}
-use Rattle.job.proofs.Formed.{Asks, asks, asks-facts, asks-event, asks-length, asks-setup, asks-data}
-use Rattle.job.proofs.LineLength.{Attaches, attaches}
+use Rattle.job.specs.Event.{packOf}
+use Rattle.job.specs.Text.{firstLine, eventOf}
+use Rattle.job.proofs.Formed.{Asks, asks-facts, asks-event, asks-length, asks-setup, asks-data}
+use Rattle.job.proofs.LineLength.{Attaches}
 
 pub asks-packed : {u : List ℕ} → (x : Asks u) → packOf (eventOf (firstLine u)) ≡ 1 ∷ (x .a ++ x .b)
 unfolding packOf

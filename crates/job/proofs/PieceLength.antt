@@ -1,20 +1,18 @@
 -- The length of the first packed event by the tests that decide it. Assumes nothing.
-use mathlib.Core.Path.{_≡_, refl, ap, ap₂, _∙_, sym}
-use mathlib.Core.Bool.{Bool, true, false, cond, _&&_}
-use mathlib.Core.List.{List, [], _∷_, _++_}
-use Prim.Native.Nat.{ℕ, zero, suc, _+_, _-_, _*_, _≤_, _<_}
+use mathlib.Core.Path.{_≡_, refl, ap, _∙_, sym}
+use mathlib.Core.Bool.{true, false}
+use mathlib.Core.List.{List, [], _∷_}
+use Prim.Native.Nat.{ℕ, suc, _+_, _-_, _≤_, _<_}
 use native.Mathlib.Omega.{arith}
-use lib.Dec.{eqb, ltb, leb}
-use lib.ListN.{length, take, drop, getD, take-append-drop, length-take}
+use lib.Dec.{leb}
+use lib.ListN.{length, take, drop, getD, take-append-drop}
 use lib.Seq.{length-take-le, take-all}
-use borrow.Author.Tests.{eq-eqb, ne-eqb, lt-leb, lt-ltb, le-ltb}
+use borrow.Author.Tests.{ne-eqb}
 use Rattle.laws.proofs.Bytes.{rest-is}
-use Rattle.laws.proofs.Split.{by-bool, by-lt, and-true}
+use Rattle.laws.proofs.Split.{by-bool, by-lt, and-right-false, and-right-true}
 use Rattle.request.specs.Setup.{setupOf, dataLength, fitsOf}
-use Rattle.request.proofs.Lengths.{fits-short}
-use Rattle.job.specs.Event.{Event, attach, request, fits, packOf, lineOf, same}
-use Rattle.job.specs.Text.{limit}
-use Rattle.job.specs.Packed.{pieceSize, firstPiece, eventIn, wellPacked, pieceLength, lineSize, capped}
+use Rattle.job.specs.Event.{fits, packOf, same}
+use Rattle.job.specs.Packed.{pieceSize, firstPiece, eventIn, wellPacked, pieceLength}
 use Rattle.job.proofs.FirstLine.{same-refl}
 use Rattle.job.proofs.Formed.{fits-if, setup-front}
 
@@ -62,10 +60,6 @@ other-piece [] h m n = absurd (omega arith)
 other-piece (x ∷ t) h m n = piece-bad (x ∷ t) (ap wellPacked (first-other x t n) ∙ not-well x m)
 
 -- a packed request: its kind byte, and then as many bytes as it asks for
-and-right-true : (a : Bool) → (a && true) ≡ a
-and-right-true true = refl
-and-right-true false = refl
-
 well-request : (q : List ℕ) → wellPacked (1 ∷ q) ≡ fitsOf q
 unfolding wellPacked fits eventIn packOf
 well-request q = rw (same-refl (1 ∷ q)) (and-right-true (fitsOf q))
@@ -81,10 +75,6 @@ unfolding fitsOf
 not-fit q h =
     let n : length q ≡ 8 + dataLength (setupOf q) → ⊥ = λ z. omega arith in
     rw (ne-eqb (length q) (8 + dataLength (setupOf q)) n) (and-right-false (leb 8 (length q)))
-  where
-    and-right-false : (a : Bool) → (a && false) ≡ false
-    and-right-false true = refl
-    and-right-false false = refl
 
 request-cut : (t : List ℕ) → length t < 8 + dataLength (setupOf t) → wellPacked (firstPiece (1 ∷ t)) ≡ false
 request-cut t h =

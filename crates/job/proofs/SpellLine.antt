@@ -1,19 +1,18 @@
 -- Writing a line, step by step. Assumes nothing.
 use mathlib.Core.Path.{_≡_, refl, ap, ap₂, _∙_, sym}
-use mathlib.Core.Bool.{Bool, true, false}
 use mathlib.Core.List.{List, [], _∷_, _++_}
-use Prim.Native.Nat.{ℕ, suc, _+_, _-_, _*_, _≤_, _<_}
+use Prim.Native.Nat.{ℕ, suc, _+_, _-_, _*_, _≤_}
 use native.Mathlib.Omega.{arith}
 use native.Mathlib.Numerals.{add-one, add-two}
 use lib.ListN.{length, take, drop, set, length-set, length-drop}
 use lib.Seq.{sets, length-sets, length-take-le}
 use Rattle.laws.specs.Bytes.{put}
-use Rattle.laws.proofs.Bytes.{sets-put, put-length, rest-is}
+use Rattle.laws.proofs.Bytes.{sets-put, rest-is}
 use Rattle.laws.proofs.Append.{sets-append}
 use Rattle.hex.specs.Hex.{hexOf}
 use Rattle.hex.proofs.Fields.{hex-length}
-use Rattle.job.specs.Event.{Event, attach, request, lineOf}
-use Rattle.job.proofs.SpellSize.{line-length-of, attach-length}
+use Rattle.job.specs.Event.{attach, request, lineOf}
+use Rattle.job.proofs.SpellSize.{line-length-of}
 
 -- the room that a request's line takes
 pub request-room : (q : List ℕ) (at n : ℕ) → 8 ≤ length q → at + length (lineOf (request q)) ≤ n → at + 20 + (length q - 8) * 2 ≤ n

@@ -1,21 +1,16 @@
 -- The length of the text of a packed list, event by event. Assumes nothing.
-use mathlib.Core.Path.{_≡_, refl, ap, ap₂, _∙_, sym}
-use mathlib.Core.Bool.{Bool, true, false, cond, _&&_}
+use mathlib.Core.Path.{_≡_, refl, ap, _∙_, sym}
+use mathlib.Core.Bool.{true, false}
 use mathlib.Core.List.{List, [], _∷_, _++_}
 use Prim.Native.Nat.{ℕ, suc, _+_, _-_, _*_, _≤_, _<_}
 use native.Mathlib.Omega.{arith}
 use native.Mathlib.Nat.{add-assoc}
-use lib.Dec.{ltb}
 use lib.ListN.{length, take, drop, length-append, length-drop, drop-of-length-le}
 use lib.Seq.{drop-drop, length-take-le, take-all, drop-length}
 use borrow.Author.Tests.{lt-ltb, le-ltb}
 use Rattle.laws.proofs.Bytes.{rest-is}
 use Rattle.laws.proofs.Split.{by-bool, by-lt}
-use Rattle.request.specs.Setup.{fitsOf}
-use Rattle.hex.specs.Hex.{hexOf}
-use Rattle.hex.proofs.Fields.{hex-length}
 use Rattle.refusal.specs.declared.Refusal.the-variants.{Request}
-use Rattle.job.specs.declared.Done.{Done}
 use Rattle.job.specs.declared.Done.the-variants.{Bytes, Refused}
 use Rattle.job.specs.Event.{Event, attach, request, fits, lineOf, textOf, packOf}
 use Rattle.job.specs.Text.{limit}

@@ -1,17 +1,12 @@
 -- A request's line by its places: what stands where in it, and that what stands so is one. Assumes nothing.
 use mathlib.Core.Path.{_≡_, refl, ap, ap₂, _∙_, sym}
-use mathlib.Core.Bool.{Bool, true, false, _&&_}
-use mathlib.Core.List.{List, [], _∷_, _++_, append-assoc, append-nil}
-use Prim.Native.Nat.{ℕ, zero, suc, _+_, _-_, _*_, _/_, _%_, _≤_, _<_}
+use mathlib.Core.Bool.{true}
+use mathlib.Core.List.{List, _∷_, _++_}
+use Prim.Native.Nat.{ℕ, suc, _+_, _*_, _%_, _≤_, _<_}
 use native.Mathlib.Omega.{arith}
-use native.Mathlib.Nat.{add-zero}
-use lib.Dec.{eqb, ltb, leb}
-use lib.ListN.{length, take, drop, getD, length-append, length-drop, take-append-drop, List·getD-append}
-use lib.Seq.{length-take-le, drop-cons, drop-drop, take-at, drop-at, getD-at, drop-append-add, getD-drop, getD-append-add}
-use borrow.Author.Tests.{lt-ltb, ltb-true, eqb-true, leb-true}
-use Rattle.laws.proofs.Split.{and-true}
-use Rattle.request.specs.Setup.{setupOf, dataLength, fitsOf}
-use Rattle.hex.specs.Hex.{hexOf, bytesOf, allDigits, allBytes}
+use lib.ListN.{length, take, drop, getD, length-append, length-drop, take-append-drop}
+use lib.Seq.{length-take-le, drop-cons, drop-drop, take-at, getD-at, drop-append-add, getD-drop}
+use Rattle.hex.specs.Hex.{hexOf, bytesOf, allDigits}
 use Rattle.hex.proofs.Fields.{hex-length, hex-bytes}
 
 -- a request's line, with its setup a, its data b, and r after it

@@ -1,22 +1,19 @@
 -- The walk and the events of a text: what `item_at` gives at a place from which on the text is that of some events. Assumes nothing.
 use mathlib.Core.Path.{_≡_, refl, ap, ap₂, _∙_, sym}
-use mathlib.Core.Bool.{Bool, true, false, cond}
+use mathlib.Core.Bool.{true}
 use mathlib.Core.List.{List, [], _∷_, _++_, append-assoc}
-use Prim.Native.Nat.{ℕ, suc, _+_, _-_, _*_, _≤_, _<_}
+use Prim.Native.Nat.{ℕ, _+_, _-_, _*_, _≤_, _<_}
 use native.Mathlib.Omega.{arith}
-use lib.Dec.{leb}
 use lib.ListN.{length, take, drop, length-append, length-drop}
 use lib.Seq.{drop-drop, drop-append-seam, length-take-le}
 use borrow.Author.Tests.{lt-leb, le-leb}
-use Rattle.laws.proofs.Split.{by-lt}
-use Rattle.request.specs.Setup.{setupOf, dataLength, fitsOf}
+use Rattle.request.specs.Setup.{setupOf, dataLength}
 use Rattle.request.specs.declared.Setup.{Setup}
-use Rattle.hex.specs.Hex.{hexOf, bytesOf, allBytes}
+use Rattle.hex.specs.Hex.{bytesOf}
 use Rattle.hex.proofs.Fields.{bytes-hex}
-use Rattle.job.specs.declared.Item.{Item}
 use Rattle.job.specs.declared.Item.the-variants as item
 use Rattle.job.specs.Event.{Event, attach, request, fits, inBytes, proper, lineOf, textOf}
-use Rattle.job.specs.Text.{firstLine, eventOf, wellFormed, firstBad, eventsOf}
+use Rattle.job.specs.Text.{firstLine, firstBad, eventsOf}
 use Rattle.job.specs.Calls.{itemFor, itemOf}
 use Rattle.job.proofs.Spelling.{spelled, spelled-facts}
 use Rattle.job.proofs.Formed.{fits-long, fits-data, bytes-drop}

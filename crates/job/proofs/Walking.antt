@@ -1,11 +1,10 @@
 -- A walk over a text, line by line: what one turn of it does. Assumes nothing.
-use mathlib.Core.Path.{_≡_, refl, ap, ap₂, _∙_, sym}
-use mathlib.Core.Bool.{Bool, true, false, cond, true≢false}
+use mathlib.Core.Path.{_≡_, ap, ap₂, _∙_, sym}
+use mathlib.Core.Bool.{true, false}
 use mathlib.Core.List.{List, [], _∷_, _++_}
-use Prim.Native.Nat.{ℕ, zero, suc, _+_, _-_, _*_, _/_, _≤_, _<_}
+use Prim.Native.Nat.{ℕ, suc, _+_, _-_, _*_, _/_, _≤_, _<_}
 use native.Mathlib.Omega.{arith}
 use native.Mathlib.Numerals.{add-one}
-use lib.Dec.{eqb, ltb, leb}
 use lib.ListN.{length, take, drop, getD, length-append, length-drop, drop-of-length-le}
 use lib.Seq.{drop-drop}
 use borrow.Author.Tests.{lt-leb, le-leb, lt-ltb, le-ltb, eq-eqb, ne-eqb}
@@ -15,14 +14,12 @@ use Rattle.request.specs.Setup.{setupOf}
 use Rattle.request.specs.declared.Setup.{Setup}
 use Rattle.hex.specs.Hex.{bytesOf}
 use Rattle.refusal.specs.declared.Refusal.the-variants.{Text, Line}
-use Rattle.job.specs.declared.Done.{Done}
 use Rattle.job.specs.declared.Done.the-variants.{Bytes, Refused}
-use Rattle.job.specs.declared.Item.{Item}
 use Rattle.job.specs.declared.Item.the-variants as item
 use Rattle.job.specs.Event.{Event, attach, request, packOf, packedOf}
 use Rattle.job.specs.Text.{limit, firstLine, linesOf, eventOf, wellFormed, lineLength, packedSize, badFrom, firstBad, eventsIn, eventsOf}
 use Rattle.job.specs.Calls.{measureOf, itemFor, itemOf}
-use Rattle.job.proofs.FirstLine.{first-some, first-length, lines-first}
+use Rattle.job.proofs.FirstLine.{first-some, lines-first}
 use Rattle.job.proofs.Formed.{Asks, asks, asks-event, asks-length, asks-setup, setup-front}
 use Rattle.job.proofs.LineLength.{length-good, length-bad, Attaches, attaches}
 

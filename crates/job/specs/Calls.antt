@@ -1,11 +1,10 @@
 -- What the calls answer, and what the lent buffer holds then. Document 01, "Job text" and "Refusal numbers". Assumes nothing.
-use mathlib.Core.Bool.{Bool, cond}
+use mathlib.Core.Bool.{cond}
 use mathlib.Core.List.{List, [], _∷_}
-use Prim.Native.Nat.{ℕ, _+_, _*_, _/_, _-_}
+use Prim.Native.Nat.{ℕ, _+_}
 use lib.Dec.{eqb, ltb, leb}
 use lib.ListN.{length, drop}
 use Rattle.laws.specs.Bytes.{put}
-use Rattle.refusal.specs.declared.Refusal.{Refusal}
 use Rattle.refusal.specs.declared.Refusal.the-variants.{Text, Line, Output, Request}
 use Rattle.refusal.specs.Refusal.{numberOf, lineOf}
 use Rattle.request.specs.Setup.{setupOf}

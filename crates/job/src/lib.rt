@@ -36,12 +36,26 @@ pub enum Item {
 // The most bytes that a text may have.
 pub const LIMIT: usize = 60000;
 
+// The places in a request's line: its setup, the tab behind it, its data; and the length of a line without data.
+const SETUP: usize = 2;
+
+const TAB: usize = 18;
+
+const DATA: usize = 19;
+
+const SHORTEST: usize = 20;
+
+// The bytes of a setup, and of a packed request without data.
+const SETUP_BYTES: usize = 8;
+
+const HEAD: usize = 9;
+
 // The setup that 16 digits spell.
 fn setup(field: &[u8]) -> Setup
     requires { ⌜ length (now field) ≡ 16 ⌝ }
     ensures { λ r. ⌜ r ≡ setupOf (bytesOf (now (field .entry))) ⌝ }
 {
-    let mut bytes = [0u8; 8];
+    let mut bytes = [0u8; SETUP_BYTES];
     hex::decode(field, &mut bytes, 0);
     Setup::of(&bytes)
 }
@@ -51,27 +65,27 @@ fn request_length(rest: &[u8]) -> usize
     requires { ⌜ getD (now rest) 0 0 ≡ 81 ⌝ }
     ensures { λ r. ⌜ r ≡ lineLength (now (rest .entry)) ⌝ }
 {
-    if rest.len() < 20 {
+    if rest.len() < SHORTEST {
         return 0;
     }
     if rest[1] != b'\t' {
         return 0;
     }
-    if rest[18] != b'\t' {
+    if rest[TAB] != b'\t' {
         return 0;
     }
-    if !hex::digits(&rest[2..18]) {
+    if !hex::digits(&rest[SETUP..TAB]) {
         return 0;
     }
-    let count = setup(&rest[2..18]).data_length();
-    if (rest.len() - 20) / 2 < count {
+    let count = setup(&rest[SETUP..TAB]).data_length();
+    if (rest.len() - SHORTEST) / 2 < count {
         return 0;
     }
-    let end = 19 + count * 2;
+    let end = DATA + count * 2;
     if rest[end] != b'\n' {
         return 0;
     }
-    if hex::digits(&rest[19..end]) {
+    if hex::digits(&rest[DATA..end]) {
         end + 1
     } else {
         0
@@ -100,7 +114,7 @@ fn packed_size(line: usize) -> usize
     requires { ⌜ 1 ≤ line ⌝ }
     ensures { λ r. ⌜ (r ≡ packedSize line) × (r ≤ line) ⌝ }
 {
-    if line < 20 {
+    if line < SHORTEST {
         return 1;
     }
     line / 2 - 1
@@ -118,13 +132,13 @@ pub fn item_at(text: &[u8], at: usize) -> Item
         return Item::Bad;
     }
     let next = at + line;
-    if line < 20 {
+    if line < SHORTEST {
         return Item::Attach { next };
     }
-    let asked = setup(&text[at + 2..at + 18]);
+    let asked = setup(&text[at + SETUP..at + TAB]);
     Item::Request {
         setup: asked,
-        data: at + 19,
+        data: at + DATA,
         next,
     }
 }
@@ -165,10 +179,10 @@ fn pack_request(rest: &[u8], out: &mut [u8], at: usize) -> usize
     ensures { λ r. ⌜ (now (out .exit) ≡ put at (packOf (eventOf (firstLine (now (rest .entry))))) (now (out .entry))) × (r ≡ length (firstLine (now (rest .entry)))) ⌝ }
 {
     out[at] = 1;
-    hex::decode(&rest[2..18], out, at + 1);
-    let count = Setup::of(&out[at + 1..at + 9]).data_length();
-    let end = 19 + count * 2;
-    hex::decode(&rest[19..end], out, at + 9);
+    hex::decode(&rest[SETUP..TAB], out, at + 1);
+    let count = Setup::of(&out[at + 1..at + HEAD]).data_length();
+    let end = DATA + count * 2;
+    hex::decode(&rest[DATA..end], out, at + HEAD);
     end + 1
 }
 
@@ -220,14 +234,14 @@ fn request_piece(rest: &[u8]) -> usize
     requires { ⌜ getD (now rest) 0 0 ≡ 1 ⌝ }
     ensures { λ r. ⌜ r ≡ pieceLength (now (rest .entry)) ⌝ }
 {
-    if rest.len() < 9 {
+    if rest.len() < HEAD {
         return 0;
     }
     let count = Setup::of(&rest[1..]).data_length();
-    if rest.len() - 9 < count {
+    if rest.len() - HEAD < count {
         return 0;
     }
-    9 + count
+    HEAD + count
 }
 
 // How many bytes the packed event at the front of `rest` takes, or 0 where it is of no kind or ends too early.
@@ -248,7 +262,7 @@ fn line_size(piece: usize) -> usize
     requires { ⌜ piece ≤ limit ⌝ }
     ensures { λ r. ⌜ (r ≡ lineSize piece) × (r ≤ limit * 2 + 2) ⌝ }
 {
-    if piece < 9 {
+    if piece < HEAD {
         return 2;
     }
     piece * 2 + 2
@@ -288,14 +302,14 @@ pub fn write_request(bytes: &[u8], out: &mut [u8], at: usize) -> usize
     requires { ⌜ (8 ≤ length (now bytes)) × (at + length (lineOf (request (now bytes))) ≤ length (now out)) ⌝ }
     ensures { λ r. ⌜ (now (out .exit) ≡ put at (lineOf (request (now (bytes .entry)))) (now (out .entry))) × (r ≡ length (lineOf (request (now (bytes .entry))))) ⌝ }
 {
-    let digits = (bytes.len() - 8) * 2;
+    let digits = (bytes.len() - SETUP_BYTES) * 2;
     out[at] = b'Q';
     out[at + 1] = b'\t';
-    hex::encode(&bytes[0..8], out, at + 2);
-    out[at + 18] = b'\t';
-    hex::encode(&bytes[8..], out, at + 19);
-    out[at + 19 + digits] = b'\n';
-    20 + digits
+    hex::encode(&bytes[0..SETUP_BYTES], out, at + SETUP);
+    out[at + TAB] = b'\t';
+    hex::encode(&bytes[SETUP_BYTES..], out, at + DATA);
+    out[at + DATA + digits] = b'\n';
+    SHORTEST + digits
 }
 
 // Writes the line of a packed event into `out` from place `at` on, and gives its length.

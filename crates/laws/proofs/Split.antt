@@ -19,3 +19,11 @@ by-lt m n t f = by-cases (decLt m n) t (λ h. f (omega arith))
 pub and-true : (a b : Bool) → (a && b) ≡ true → (a ≡ true) × (b ≡ true)
 and-true true b e = (refl, e)
 and-true false b e = absurd (false≢true e)
+
+pub and-right-false : (a : Bool) → (a && false) ≡ false
+and-right-false true = refl
+and-right-false false = refl
+
+pub and-right-true : (a : Bool) → (a && true) ≡ a
+and-right-true true = refl
+and-right-true false = refl

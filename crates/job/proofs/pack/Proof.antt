@@ -5,7 +5,7 @@ use Rattle.job.specs.Text.{firstBad, eventsOf}
 use Rattle.job.specs.Event.{packedOf}
 use lib.Seq.{sets}
 use lib.ListN.{length, drop}
-use Prim.Native.Nat.{_+_, _-_, _≤_}
+use Prim.Native.Nat.{_+_, _-_, _≤_, _<_}
 use mathlib.Core.Path.{_≡_, refl, _∙_}
 use Rattle.job.proofs.pack.Statement.{statement}
 use Rattle.job.proofs.pack.Tie as tie
@@ -15,6 +15,12 @@ Inv-loop text out₀ from₀ to₀ out from to = (sets out to (packedOf (eventsO
 
 abbrev μ-loop : tie.MeasureT-loop
 μ-loop text out₀ from₀ to₀ out from to = length text - from
+
+more : (c : tie.In-loop Inv-loop μ-loop) → c .before .loop .from < length (c .before .before .before .before .args .text .now)
+more c = omega arith
+
+over : (c : tie.After-loop Inv-loop μ-loop) → length (c .before .before .before .before .args .text .now) ≤ c .before .loop .from
+over c = omega arith
 
 loop-holds : tie.Need-loop-holds Inv-loop μ-loop
 loop-holds c = (refl, omega arith, c .before .before .pre .0, omega arith, refl)
@@ -32,31 +38,31 @@ pack-line-requires : tie.Need-pack-line-requires Inv-loop μ-loop
 pack-line-requires c κs =
     let l = c .before .before .before .loop in
     let h : length (packedOf (eventsOf (c .before .before .before .before .before .before .args .text .now))) ≤ length (l .out) = let k = c .before .before .before .before .before .before .pre .1 in omega arith in
-    (next-formed _ _ (c .before .before .loop-test .taken) (l .inv .2), next-room _ _ (c .before .before .loop-test .taken) (l .inv .2) _ _ _ (l .inv .1) h)
+    (next-formed _ _ (more (c .before .before)) (l .inv .2), next-room _ _ (more (c .before .before)) (l .inv .2) _ _ _ (l .inv .1) h)
 
 packed-size-requires : tie.Need-packed-size-requires Inv-loop μ-loop
-packed-size-requires c κs = next-some _ _ (c .before .before .before .before .before .loop-test .taken) (c .before .before .before .before .before .before .loop .inv .2) _ (c .before .before .pack-line .ensures .1)
+packed-size-requires c κs = next-some _ _ (more (c .before .before .before .before .before)) (c .before .before .before .before .before .before .loop .inv .2) _ (c .before .before .pack-line .ensures .1)
 
 add-to : tie.Need-add-to Inv-loop μ-loop
 add-to c =
     let l = c .before .before .before .before .before .before .before .loop in
-    let t = next-total _ _ (c .before .before .before .before .before .before .loop-test .taken) (l .inv .2) _ (c .before .before .before .pack-line .ensures .1) _ _ _ (c .packed-size .ensures .0) (l .inv .1) in
+    let t = next-total _ _ (more (c .before .before .before .before .before .before)) (l .inv .2) _ (c .before .before .before .pack-line .ensures .1) _ _ _ (c .packed-size .ensures .0) (l .inv .1) in
     let k = c .before .before .before .before .before .before .before .before .before .before .pre .1 in
     omega arith
 
 add-from : tie.Need-add-from Inv-loop μ-loop
-add-from c = let h = next-within _ _ (c .before .before .before .before .before .before .loop-test .taken) (c .before .before .before .before .before .before .before .loop .inv .2) _ (c .before .before .before .pack-line .ensures .1) in omega arith
+add-from c = let h = next-within _ _ (more (c .before .before .before .before .before .before)) (c .before .before .before .before .before .before .before .loop .inv .2) _ (c .before .before .before .pack-line .ensures .1) in omega arith
 
 loop-less : tie.Need-loop-less Inv-loop μ-loop
 loop-less c =
-    let h = next-within _ _ (c .before .before .before .before .before .before .loop-test .taken) (c .before .before .before .before .before .before .before .loop .inv .2) _ (c .before .before .before .pack-line .ensures .1) in
-    let k = next-some _ _ (c .before .before .before .before .before .before .loop-test .taken) (c .before .before .before .before .before .before .before .loop .inv .2) _ (c .before .before .before .pack-line .ensures .1) in
+    let h = next-within _ _ (more (c .before .before .before .before .before .before)) (c .before .before .before .before .before .before .before .loop .inv .2) _ (c .before .before .before .pack-line .ensures .1) in
+    let k = next-some _ _ (more (c .before .before .before .before .before .before)) (c .before .before .before .before .before .before .before .loop .inv .2) _ (c .before .before .before .pack-line .ensures .1) in
     omega arith
 
 loop-again : tie.Need-loop-again Inv-loop μ-loop
 loop-again c =
     let l = c .before .before .before .before .before .before .before .loop in
-    let m = c .before .before .before .before .before .before .loop-test .taken in
+    let m = more (c .before .before .before .before .before .before) in
     let is = c .before .before .before .pack-line .ensures .1 in
     let n = c .packed-size .ensures .0 in
     let h : length (packedOf (eventsOf (c .before .before .before .before .before .before .before .before .before .before .args .text .now))) ≤ length (l .out) = let k = c .before .before .before .before .before .before .before .before .before .before .pre .1 in omega arith in
@@ -67,7 +73,7 @@ same-length : tie.Need-same-length Inv-loop μ-loop
 same-length c = c .before .loop .inv .4
 
 returns : tie.Need-returns Inv-loop μ-loop
-returns c = pack-end _ _ _ _ _ (c .loop-test .left) (c .before .before .before .before .pre .1) (c .before .loop .inv .0)
+returns c = pack-end _ _ _ _ _ (over c) (c .before .before .before .before .pre .1) (c .before .loop .inv .0)
 
 pub pack-spec : {M : Type 1} → statement M
 pack-spec =

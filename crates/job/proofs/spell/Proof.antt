@@ -5,7 +5,7 @@ use Rattle.job.specs.Packed.{packs, unpacked}
 use Rattle.job.specs.Event.{textOf}
 use lib.Seq.{sets}
 use lib.ListN.{length, drop}
-use Prim.Native.Nat.{_+_, _-_, _≤_}
+use Prim.Native.Nat.{_+_, _-_, _≤_, _<_}
 use mathlib.Core.Bool.{true}
 use mathlib.Core.Path.{_≡_, refl, _∙_}
 use Rattle.job.proofs.spell.Statement.{statement}
@@ -16,6 +16,12 @@ Inv-loop packed out₀ from₀ to₀ out from to = (sets out to (textOf (unpacke
 
 abbrev μ-loop : tie.MeasureT-loop
 μ-loop packed out₀ from₀ to₀ out from to = length packed - from
+
+more : (c : tie.In-loop Inv-loop μ-loop) → c .before .loop .from < length (c .before .before .before .before .args .packed .now)
+more c = omega arith
+
+over : (c : tie.After-loop Inv-loop μ-loop) → length (c .before .before .before .before .args .packed .now) ≤ c .before .loop .from
+over c = omega arith
 
 loop-holds : tie.Need-loop-holds Inv-loop μ-loop
 loop-holds c = (refl, omega arith, c .before .before .pre .0, omega arith, refl)
@@ -47,7 +53,7 @@ part-write-piece-end c = omega arith
 write-piece-requires : tie.Need-write-piece-requires Inv-loop μ-loop
 write-piece-requires c κs =
     let l = c .before .before .before .before .before .loop in
-    let m = c .before .before .before .before .loop-test .taken in
+    let m = more (c .before .before .before .before) in
     let is = c .before .before .piece-length .ensures .0 in
     let h : length (textOf (unpacked (c .before .before .before .before .before .before .before .before .args .packed .now))) ≤ length (l .out) = let k = c .before .before .before .before .before .before .before .before .pre .1 in omega arith in
     (next-well _ _ _ m is (l .inv .2), next-room _ _ _ m is (l .inv .2) _ _ _ (l .inv .1) h)
@@ -55,19 +61,19 @@ write-piece-requires c κs =
 add-to : tie.Need-add-to Inv-loop μ-loop
 add-to c =
     let l = c .before .before .before .before .before .before .before .before .loop in
-    let t = next-total _ _ _ (c .before .before .before .before .before .before .before .loop-test .taken) (c .before .before .before .before .before .piece-length .ensures .0) (l .inv .2) _ _ _ (c .before .before .write-piece .ensures .1) (l .inv .1) in
+    let t = next-total _ _ _ (more (c .before .before .before .before .before .before .before)) (c .before .before .before .before .before .piece-length .ensures .0) (l .inv .2) _ _ _ (c .before .before .write-piece .ensures .1) (l .inv .1) in
     let k = c .before .before .before .before .before .before .before .before .before .before .before .pre .1 in
     omega arith
 
 loop-less : tie.Need-loop-less Inv-loop μ-loop
 loop-less c =
-    let s = next-some _ _ _ (c .before .before .before .before .before .before .before .loop-test .taken) (c .before .before .before .before .before .piece-length .ensures .0) (c .before .before .before .before .before .before .before .before .loop .inv .2) in
+    let s = next-some _ _ _ (more (c .before .before .before .before .before .before .before)) (c .before .before .before .before .before .piece-length .ensures .0) (c .before .before .before .before .before .before .before .before .loop .inv .2) in
     omega arith
 
 loop-again : tie.Need-loop-again Inv-loop μ-loop
 loop-again c =
     let l = c .before .before .before .before .before .before .before .before .loop in
-    let m = c .before .before .before .before .before .before .before .loop-test .taken in
+    let m = more (c .before .before .before .before .before .before .before) in
     let is = c .before .before .before .before .before .piece-length .ensures .0 in
     let n = c .before .before .write-piece .ensures .1 in
     let h : length (textOf (unpacked (c .before .before .before .before .before .before .before .before .before .before .before .args .packed .now))) ≤ length (l .out) = let k = c .before .before .before .before .before .before .before .before .before .before .before .pre .1 in omega arith in
@@ -77,7 +83,7 @@ same-length : tie.Need-same-length Inv-loop μ-loop
 same-length c = c .before .loop .inv .4
 
 returns : tie.Need-returns Inv-loop μ-loop
-returns c = spell-end _ _ _ _ _ (c .loop-test .left) (c .before .before .before .before .pre .1) (c .before .loop .inv .0)
+returns c = spell-end _ _ _ _ _ (over c) (c .before .before .before .before .pre .1) (c .before .loop .inv .0)
 
 pub spell-spec : {M : Type 1} → statement M
 spell-spec =
