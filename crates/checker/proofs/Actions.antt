@@ -56,7 +56,7 @@ module _ (n : ℕ) (m₀ : List ℕ) where
       let room : ramFrom n + ramBytes ≤ memoryBytes n = omega arith in
       same-bytes n (ramFrom n) ramBytes 0 m₀ m w room s
 
-  unprotected-length : length (unprotected n) ≡ memoryBytes n
+  pub unprotected-length : length (unprotected n) ≡ memoryBytes n
   unfolding unprotected
   unprotected-length =
       let white : List ℕ = replicate (flashBytes n) 0xFF in

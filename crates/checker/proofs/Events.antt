@@ -48,7 +48,7 @@ use Rattle.loader.specs.Serve.{InOrder, runOf, statusBytes, statusOf, readAt, r
 use Rattle.loader.specs.Step.{admittedOf, stepOf}
 use Rattle.job.specs.Event.{Event, attach, request}
 use Rattle.checker.specs.World.{World, worldOf, steppedOf, fails, asksStatus, isGetStatus}
-use Rattle.checker.specs.Cells.{known, blockFrom, workBytes, blockOf, Moved, falls, goes, readMoves, readsMoves, statusMoves, decisionMoves, moves}
+use Rattle.checker.specs.Cells.{known, blockFrom, workBytes, blockOf, Moved, falls, goes, readMoves, readsMoves, statusMoves, decisionMoves, requestMoves, moves}
 use Rattle.checker.proofs.Likeness.{Alike}
 use Rattle.checker.proofs.Learnt.{put-outside}
 use Rattle.checker.proofs.Actions.{protection-same}
@@ -102,8 +102,8 @@ module _ (n : ℕ) (d : Device) (q m b y m₀ w : List ℕ) (form : Form n d) (f
 
   -- what is to be shown of a decision
   record Right (x : Decision) : Type 0 where
-    pub on : (d′ : Device) (w′ : List ℕ) → decisionMoves x n d q w ≡ goes d′ w′ → (fails (request q) (actedOf x n d q m b y) ≡ false) × Stands n m₀ (worldOf (actedOf x n d q m b y)) d′ w′
-    pub down : Zeros → decisionMoves x n d q w ≡ falls → fails (request q) (actedOf x n d q m b y) ≡ true
+    pub on : (d′ : Device) (w′ : List ℕ) → decisionMoves x n d (setupOf q) (drop 8 q) w ≡ goes d′ w′ → (fails (request q) (actedOf x n d q m b y) ≡ false) × Stands n m₀ (worldOf (actedOf x n d q m b y)) d′ w′
+    pub down : Zeros → decisionMoves x n d (setupOf q) (drop 8 q) w ≡ falls → fails (request q) (actedOf x n d q m b y) ≡ true
 
   silent-right : Right decided.Silent
   unfolding fails
@@ -260,11 +260,11 @@ module _ (n : ℕ) (d : Device) (q m b y m₀ w : List ℕ) (form : Form n d) (f
       })
 
   pub serve-right-on : (d′ : Device) (w′ : List ℕ) → moves n d w (request q) ≡ goes d′ w′ → (fails (request q) (serveOf n d q m b y) ≡ false) × Stands n m₀ (worldOf (serveOf n d q m b y)) d′ w′
-  unfolding moves serveOf
+  unfolding moves requestMoves serveOf
   serve-right-on d′ w′ e = decided-right (commandOf (drop 8 q)) .on d′ w′ e
 
   pub serve-right-down : Zeros → moves n d w (request q) ≡ falls → fails (request q) (serveOf n d q m b y) ≡ true
-  unfolding moves serveOf
+  unfolding moves requestMoves serveOf
   serve-right-down z e = decided-right (commandOf (drop 8 q)) .down z e
 
 -- an event that a job can have

@@ -7,3 +7,5 @@ pub mod Events
 pub mod Runs
 pub mod Boards
 pub mod Judgement
+pub mod Loops
+pub mod Answers

@@ -117,19 +117,23 @@ readMoves (InOptions at) d w = goes (entered d UploadIdle) w
 unfoldable pub readsMoves : ℕ → Device → Setup → List ℕ → Moved
 readsMoves n d s w = readMoves (accessOf n (readProtected n w) (blockAddress (s .value) (s .length) (d .pointer)) (s .length)) d w
 
-abbrev pub decisionMoves : Decision → ℕ → Device → List ℕ → List ℕ → Moved
-decisionMoves decided.Silent n d q w = falls
-decisionMoves (decided.Stall next) n d q w = falls
-decisionMoves (decided.Accept next) n d q w = goes next w
-decisionMoves (decided.Take next) n d q w = goes next (put (blockFrom n) (drop 8 q) w)
-decisionMoves (decided.Commands next count) n d q w = goes next w
-decisionMoves decided.Read n d q w = readsMoves n d (setupOf q) w
-decisionMoves decided.State n d q w = goes d w
-decisionMoves decided.Status n d q w = statusMoves n d w
+-- a request with the setup s and the data stage xs
+abbrev pub decisionMoves : Decision → ℕ → Device → Setup → List ℕ → List ℕ → Moved
+decisionMoves decided.Silent n d s xs w = falls
+decisionMoves (decided.Stall next) n d s xs w = falls
+decisionMoves (decided.Accept next) n d s xs w = goes next w
+decisionMoves (decided.Take next) n d s xs w = goes next (put (blockFrom n) xs w)
+decisionMoves (decided.Commands next count) n d s xs w = goes next w
+decisionMoves decided.Read n d s xs w = readsMoves n d s w
+decisionMoves decided.State n d s xs w = goes d w
+decisionMoves decided.Status n d s xs w = statusMoves n d w
+
+unfoldable pub requestMoves : ℕ → Device → Setup → List ℕ → List ℕ → Moved
+requestMoves n d s xs w = decisionMoves (decideOf d s (commandOf xs)) n d s xs w
 
 unfoldable pub moves : ℕ → Device → List ℕ → Event → Moved
 moves n d w attach = goes started w
-moves n d w (request q) = decisionMoves (decideOf d (setupOf q) (commandOf (drop 8 q))) n d q w
+moves n d w (request q) = requestMoves n d (setupOf q) (drop 8 q) w
 
 -- the events of a job: the first that falls, counted from 1 after k, or how all boards end
 pub data Over : Type 0 where

@@ -1,6 +1,34 @@
-// The job checker.
+// The job checker: it runs a job on every board at once. The work area holds what is known of all of
+// them, a value and a mark for each byte of memory, and the block that waits to be written.
 ghost use mathlib.Core.Path.{_≡_};
+ghost use mathlib.Core.Bool.{true};
+ghost use mathlib.Core.List.{List};
+ghost use Prim.Native.Nat.{ℕ, _+_, _-_, _*_, _/_, _≤_, _<_};
+ghost use lib.ListN.{length, drop, getD, replicate};
+ghost use Rattle.laws.specs.Bytes.{put, filled};
+ghost use Rattle.board.specs.Layout.{pageBytes, ramFrom, ramBytes, memoryBytes};
+ghost use Rattle.request.specs.Request.{transferBytes};
+ghost use Rattle.request.specs.Setup.{dataLength};
+ghost use Rattle.device.specs.WellFormed.{wellFormed};
+ghost use Rattle.loader.specs.Perform.{endOf, countOf};
+ghost use Rattle.memory.specs.Flash.{each, stored};
+ghost use Rattle.memory.specs.Whole.{unprotected};
+ghost use Rattle.decision.specs.Decide.{commandOf};
+ghost use Rattle.hex.specs.Hex.{bytesOf};
+ghost use Rattle.checker.specs.Walk.{movedAs};
+ghost use Rattle.checker.specs.Cells.{blockFrom, workBytes, marked, learnt, blockOf, pageErased, pagesErased, worked, workedOf, writes, reports, statusMoves, readsMoves, requestMoves};
+use action::Access;
+use action::Action;
+use board::Board;
+use decision::Command;
+use decision::Decision;
+use device::Device;
+use device::Mode;
+use device::Ran;
+use job::Done;
+use job::Item;
 use refusal::Refusal;
+use request::Setup;
 
 // What is to be said of a job.
 pub enum Verdict {
@@ -12,4 +40,274 @@ pub enum Verdict {
     // The lowest flash offset that is wrong on some board.
     Flash(usize),
     Refused(Refusal),
+}
+
+// The work area's block, behind values and marks.
+fn block_from(board: Board) -> usize
+    ensures { λ r. ⌜ r ≡ blockFrom (board .pages) ⌝ }
+{
+    board.memory_bytes() * 2
+}
+
+// The bytes from place `from` up to place `to` are known from now on.
+fn mark(board: Board, work: &mut [u8], from: usize, to: usize)
+    requires { ⌜ (from ≤ to) × (to ≤ memoryBytes (board .pages)) × (length (now work) ≡ workBytes (board .pages)) ⌝ }
+    ensures { λ _. ⌜ now (work .exit) ≡ marked (board .pages) from (to - from) (now (work .entry)) ⌝ }
+{
+    let marks = board.memory_bytes();
+    buffer::fill(work, marks + from, marks + to, 1);
+}
+
+// Is each of `count` bytes from place `at` on known, but for those in write-protected pages?
+fn is_known(board: Board, work: &[u8], word: u32, at: usize, count: usize) -> bool
+    requires { ⌜ (at + count ≤ memoryBytes (board .pages)) × (length (now work) ≡ workBytes (board .pages)) ⌝ }
+    ensures { λ r. ⌜ r ≡ each 1 word at count (drop (memoryBytes (board .pages) + at) (now (work .entry))) ⌝ }
+{
+    let marks = board.memory_bytes();
+    let end = at + count;
+    let mut i = at;
+    while i < end {
+        if work[marks + i] != 1 && !board::write_protected(word, i / Board::PAGE) {
+            return false;
+        }
+        i += 1;
+    }
+    true
+}
+
+// A page is erased on every board, unless it is write-protected.
+fn erase(board: Board, work: &mut [u8], word: u32, page: usize)
+    requires { ⌜ ((page + 1) * pageBytes ≤ memoryBytes (board .pages)) × (length (now work) ≡ workBytes (board .pages)) ⌝ }
+    ensures { λ _. ⌜ now (work .exit) ≡ pageErased (board .pages) word page (now (work .entry)) ⌝ }
+{
+    if board::write_protected(word, page) {
+        return;
+    }
+    let from = page * Board::PAGE;
+    let to = from + Board::PAGE;
+    buffer::fill(work, from, to, 0xFF);
+    mark(board, work, from, to);
+}
+
+fn erase_all(board: Board, work: &mut [u8], word: u32)
+    requires { ⌜ length (now work) ≡ workBytes (board .pages) ⌝ }
+    ensures { λ _. ⌜ now (work .exit) ≡ pagesErased (board .pages) word (board .pages) 0 (now (work .entry)) ⌝ }
+{
+    let pages = board.pages as usize;
+    let mut page = 0;
+    while page < pages {
+        erase(board, work, word, page);
+        page += 1;
+    }
+}
+
+// The first `count` bytes of the block go to memory from place `at` on, but for those in write-protected pages.
+fn store(board: Board, work: &mut [u8], word: u32, at: usize, count: usize)
+    requires { ⌜ (at + count ≤ memoryBytes (board .pages)) × (count ≤ transferBytes) × (length (now work) ≡ workBytes (board .pages)) ⌝ }
+    ensures { λ _. ⌜ now (work .exit) ≡ stored word at (blockOf (board .pages) count (now (work .entry))) (now (work .entry)) ⌝ }
+{
+    let block = block_from(board);
+    let mut i = 0;
+    while i < count {
+        if !board::write_protected(word, (at + i) / Board::PAGE) {
+            work[at + i] = work[block + i];
+        }
+        i += 1;
+    }
+}
+
+// The same with no page write-protected.
+fn copy(board: Board, work: &mut [u8], at: usize, count: usize)
+    requires { ⌜ (at + count ≤ memoryBytes (board .pages)) × (count ≤ transferBytes) × (length (now work) ≡ workBytes (board .pages)) ⌝ }
+    ensures { λ _. ⌜ now (work .exit) ≡ put at (blockOf (board .pages) count (now (work .entry))) (now (work .entry)) ⌝ }
+{
+    let block = block_from(board);
+    let mut i = 0;
+    while i < count {
+        work[at + i] = work[block + i];
+        i += 1;
+    }
+}
+
+// A write to flash: on every board, or on some board an error.
+fn write(board: Board, work: &mut [u8], word: u32, at: usize, count: usize) -> u8
+    requires { ⌜ (at + count ≤ memoryBytes (board .pages)) × (count ≤ transferBytes) × (length (now work) ≡ workBytes (board .pages)) ⌝ }
+    ensures { λ r. ⌜ worked r (now (work .exit)) ≡ writes (board .pages) word at count (now (work .entry)) ⌝ }
+{
+    if !memory::is_blank(work, word, at, count) {
+        return Device::WRITE;
+    }
+    if !is_known(board, work, word, at, count) {
+        return Device::WRITE;
+    }
+    store(board, work, word, at, count);
+    0
+}
+
+// A write to RAM or options.
+fn keep(board: Board, work: &mut [u8], at: usize, count: usize)
+    requires { ⌜ (at + count ≤ memoryBytes (board .pages)) × (count ≤ transferBytes) × (length (now work) ≡ workBytes (board .pages)) ⌝ }
+    ensures { λ _. ⌜ now (work .exit) ≡ learnt (board .pages) at (blockOf (board .pages) count (now (work .entry))) (now (work .entry)) ⌝ }
+{
+    copy(board, work, at, count);
+    mark(board, work, at, at + count);
+}
+
+// Read unprotect of a protected board: all of memory is known then.
+fn unprotect(board: Board, work: &mut [u8])
+    requires { ⌜ length (now work) ≡ workBytes (board .pages) ⌝ }
+    ensures { λ _. ⌜ now (work .exit) ≡ learnt (board .pages) 0 (unprotected (board .pages)) (now (work .entry)) ⌝ }
+{
+    let bytes = board.memory_bytes();
+    memory::unprotect(board, &mut work[0..bytes]);
+    mark(board, work, 0, bytes);
+}
+
+fn clear_ram(board: Board, work: &mut [u8])
+    requires { ⌜ length (now work) ≡ workBytes (board .pages) ⌝ }
+    ensures { λ _. ⌜ now (work .exit) ≡ learnt (board .pages) (ramFrom (board .pages)) (replicate ramBytes 0) (now (work .entry)) ⌝ }
+{
+    let from = board.ram_from();
+    let to = from + Board::RAM_BYTES;
+    buffer::fill(work, from, to, 0);
+    mark(board, work, from, to);
+}
+
+// An action on every board; the answer is its status.
+fn act(board: Board, action: Action, work: &mut [u8]) -> u8
+    requires { ⌜ (length (now work) ≡ workBytes (board .pages)) × (endOf action ≤ memoryBytes (board .pages)) × (countOf action ≤ transferBytes) ⌝ }
+    ensures { λ r. ⌜ worked r (now (work .exit)) ≡ workedOf (board .pages) action (now (work .entry)) ⌝ }
+{
+    let word = board.protection_word(work);
+    match action {
+        Action::Rest => 0,
+        Action::Fail(status) => status,
+        Action::Point(_) => 0,
+        Action::Erase(page) => {
+            erase(board, work, word, page);
+            0
+        }
+        Action::EraseAll => {
+            erase_all(board, work, word);
+            0
+        }
+        Action::Unprotect => {
+            unprotect(board, work);
+            0
+        }
+        Action::ClearRam => {
+            clear_ram(board, work);
+            0
+        }
+        Action::StoreFlash { at, count } => write(board, work, word, at, count as usize),
+        Action::StoreRam { at, count } => {
+            keep(board, work, at, count as usize);
+            0
+        }
+        Action::StoreOptions { at, count } => {
+            keep(board, work, at, count as usize);
+            0
+        }
+    }
+}
+
+// What an event comes to: it fails on some board, or all boards go on alike.
+enum Step {
+    Falls,
+    Goes(Device),
+}
+
+// GETSTATUS: what is pending runs on every board.
+fn status(board: Board, device: Device, work: &mut [u8]) -> Step
+    requires { ⌜ (length (now work) ≡ workBytes (board .pages)) × (wellFormed (board .pages) device ≡ true) ⌝ }
+    ensures { λ r. ⌜ movedAs r (now (work .exit)) ≡ statusMoves (board .pages) device (now (work .entry)) ⌝ }
+{
+    let mode = device.mode;
+    let pointer = device.pointer;
+    if mode.wire() != 3 {
+        return report(
+            device,
+            Ran {
+                status: 0,
+                pointer,
+                reboots: false,
+            },
+        );
+    }
+    let protected = board.read_protected(work);
+    let action = action::intend(board, protected, device);
+    let status = act(board, action, work);
+    report(device, action.ran(pointer, status))
+}
+
+fn report(device: Device, ran: Ran) -> Step
+    ensures { λ r. ⌜ ((w : List ℕ) → movedAs r w ≡ reports device ran w) ⌝ }
+{
+    let told = device.report(ran);
+    if told.status != 0 {
+        return Step::Falls;
+    }
+    Step::Goes(device.status(ran))
+}
+
+// UPLOAD of memory: only whether the checks allow it can differ, and they do not look at flash or RAM.
+fn upload(board: Board, device: Device, setup: Setup, work: &[u8]) -> Step
+    ensures { λ r. ⌜ movedAs r (now (work .entry)) ≡ readsMoves (board .pages) device setup (now (work .entry)) ⌝ }
+{
+    let protected = board.read_protected(work);
+    let count = setup.length;
+    let address = action::block_address(setup.value, count, device.pointer);
+    let access = action::examine(board, protected, address, count);
+    match access {
+        Access::Denied(_) => Step::Falls,
+        Access::InFlash(_) => Step::Goes(device.enter(Mode::UploadIdle)),
+        Access::InRam(_) => Step::Goes(device.enter(Mode::UploadIdle)),
+        Access::InOptions(_) => Step::Goes(device.enter(Mode::UploadIdle)),
+    }
+}
+
+// The byte that two digits of a field spell, or 0 past its end.
+fn byte_in(field: &[u8], i: usize) -> u8
+    requires { ⌜ i < 5 ⌝ }
+    ensures { λ r. ⌜ r ≡ getD (bytesOf (now (field .entry))) i 0 ⌝ }
+{
+    if field.len() / 2 <= i {
+        return 0;
+    }
+    hex::byte(field[i * 2], field[i * 2 + 1])
+}
+
+// The command that a field of data spells.
+fn command(field: &[u8]) -> Command
+    ensures { λ r. ⌜ r ≡ commandOf (bytesOf (now (field .entry))) ⌝ }
+{
+    let bytes = [
+        byte_in(field, 0),
+        byte_in(field, 1),
+        byte_in(field, 2),
+        byte_in(field, 3),
+        byte_in(field, 4),
+    ];
+    Command::of(&bytes)
+}
+
+// A request on every board; `field` holds its data as digits.
+fn request(board: Board, device: Device, setup: Setup, field: &[u8], work: &mut [u8]) -> Step
+    requires { ⌜ (length (now work) ≡ workBytes (board .pages)) × (wellFormed (board .pages) device ≡ true) × (length (now field) ≡ dataLength setup * 2) ⌝ }
+    ensures { λ r. ⌜ movedAs r (now (work .exit)) ≡ requestMoves (board .pages) device setup (bytesOf (now (field .entry))) (now (work .entry)) ⌝ }
+{
+    let decision = decision::decide(device, setup, command(field));
+    match decision {
+        Decision::Silent => Step::Falls,
+        Decision::Stall(_) => Step::Falls,
+        Decision::Accept(next) => Step::Goes(next),
+        Decision::Take(next) => {
+            hex::decode(field, work, block_from(board));
+            Step::Goes(next)
+        }
+        Decision::Commands { next, count: _ } => Step::Goes(next),
+        Decision::Read => upload(board, device, setup, work),
+        Decision::State => Step::Goes(device),
+        Decision::Status => status(board, device, work),
+    }
 }

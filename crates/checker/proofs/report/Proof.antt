@@ -1,0 +1,24 @@
+-- `checker::report` meets its contract. Assumes nothing.
+use borrow.Author.Tests.{ne-eqb}
+use borrow.Author.Needs.{needs}
+use Rattle.checker.proofs.report.Statement.{statement}
+use Rattle.checker.proofs.report.Tie as tie
+
+report-requires : tie.Need-report-requires
+report-requires c κs = search needs
+
+returns : tie.Need-returns
+returns c w =
+    let is = c .before .before .report .ensures in
+    simp (← is, ne-eqb _ _ (c .if1 .taken))
+
+status-requires : tie.Need-status-requires
+status-requires c κs = search needs
+
+returns-2 : tie.Need-returns-2
+returns-2 c w =
+    let is = c .before .before .before .report .ensures in
+    simp (c .status .ensures, ← is, c .before .if1 .left)
+
+pub report-spec : {M : Type 1} → statement M
+report-spec = tie.close (tie.spec report-requires returns status-requires returns-2)
