@@ -9,3 +9,4 @@ pub mod Boards
 pub mod Judgement
 pub mod Loops
 pub mod Answers
+pub mod Walking

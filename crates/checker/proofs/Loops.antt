@@ -1,15 +1,13 @@
 -- One turn of each loop over the work area. Assumes nothing.
 use mathlib.Core.Path.{_≡_, refl, ap, _∙_, sym}
-use mathlib.Core.Bool.{Bool, true, false, cond, _&&_, _||_}
+use mathlib.Core.Bool.{Bool, true, false, cond}
 use mathlib.Core.List.{List}
 use Prim.Native.Nat.{ℕ, zero, suc, _+_, _-_, _*_, _≤_, _<_}
 use native.Mathlib.Omega.{arith}
 use native.Mathlib.Nat.{add-assoc}
 use native.Mathlib.Numerals.{add-one}
-use lib.Dec.{eqb}
 use lib.ListN.{length, take, drop, getD, set, replicate, length-drop, length-replicate}
 use lib.Seq.{drop-cons, drop-set-lt, getD-take, getD-drop, length-take-le, sets}
-use borrow.Author.Tests.{eq-eqb, ne-eqb}
 use Rattle.laws.specs.Bytes.{put, filled}
 use Rattle.laws.proofs.Bytes.{sets-turn, sets-end, sets-put}
 use Rattle.board.specs.Layout.{pageBytes, memoryBytes}
@@ -18,33 +16,9 @@ use Rattle.memory.specs.Flash.{kept, each, stored}
 use Rattle.memory.proofs.Flash.{stored-open, stored-kept, stored-end}
 use Rattle.checker.specs.Cells.{marked, learnt, blockFrom, blockOf, pageErased, pagesErased}
 
--- the test over marks, which stand o places behind the bytes that they belong to
-module _ (v word o : ℕ) (w : List ℕ) (i e : ℕ) (h : i < e) (l : o + i < length w) where
-  each-turn : each v word i (e - i) (drop (o + i) w) ≡ ((eqb (getD w (o + i) 0) v || kept word i) && each v word (i + 1) (e - (i + 1)) (drop (o + (i + 1)) w))
-  unfolding each
-  each-turn =
-      let k : e - i ≡ suc (e - (i + 1)) = omega arith in
-      rw (k, drop-cons w (o + i) 0 l, ← add-assoc o i 1, add-one (o + i), add-one i)
-
-  pub each-is : getD w (o + i) 0 ≡ v → each v word (i + 1) (e - (i + 1)) (drop (o + (i + 1)) w) ≡ each v word i (e - i) (drop (o + i) w)
-  each-is z = sym (each-turn ∙ rw (eq-eqb (getD w (o + i) 0) v z))
-
-  pub each-kept : (getD w (o + i) 0 ≡ v → ⊥) → kept word i ≡ true → each v word (i + 1) (e - (i + 1)) (drop (o + (i + 1)) w) ≡ each v word i (e - i) (drop (o + i) w)
-  each-kept z k = sym (each-turn ∙ rw (ne-eqb (getD w (o + i) 0) v z, k))
-
-  pub each-odd : (getD w (o + i) 0 ≡ v → ⊥) → kept word i ≡ false → false ≡ each v word i (e - i) (drop (o + i) w)
-  each-odd z k = sym (each-turn ∙ rw (ne-eqb (getD w (o + i) 0) v z, k))
-
-pub each-end : (v word o : ℕ) (w : List ℕ) (i e : ℕ) → e ≤ i → each v word i (e - i) (drop (o + i) w) ≡ true
-unfolding each
-each-end v word o w i e h =
-    let k : e - i ≡ 0 = omega arith in
-    rw k
-
-pub each-span : (v word at count : ℕ) (ms : List ℕ) → each v word at (at + count - at) ms ≡ each v word at count ms
-each-span v word at count ms =
-    let e : at + count - at ≡ count = omega arith in
-    rw e
+-- the place behind a mark, which stands o places behind its byte
+pub next-mark : (v word o i count : ℕ) (w : List ℕ) → each v word (i + 1) count (drop (o + (i + 1)) w) ≡ each v word (i + 1) count (drop (o + i + 1) w)
+next-mark v word o i count w = ap (λ (k : ℕ). each v word (i + 1) count (drop k w)) (sym (add-assoc o i 1))
 
 -- a byte of the block that goes to memory, the block itself staying as it was
 module _ (w₀ w : List ℕ) (at count block i : ℕ) (h : i < count) (apart : at + count ≤ block) (room : block + count ≤ length w₀) (same : drop block w ≡ drop block w₀) where

@@ -1,12 +1,13 @@
 // The job checker: it runs a job on every board at once. The work area holds what is known of all of
 // them, a value and a mark for each byte of memory, and the block that waits to be written.
 ghost use mathlib.Core.Path.{_≡_};
-ghost use mathlib.Core.Bool.{true};
+ghost use mathlib.Core.Bool.{true, not, _&&_};
+ghost use lib.Dec.{eqb};
 ghost use mathlib.Core.List.{List};
 ghost use Prim.Native.Nat.{ℕ, _+_, _-_, _*_, _/_, _≤_, _<_};
 ghost use lib.ListN.{length, drop, getD, replicate};
 ghost use Rattle.laws.specs.Bytes.{put, filled};
-ghost use Rattle.board.specs.Layout.{pageBytes, ramFrom, ramBytes, memoryBytes};
+ghost use Rattle.board.specs.Layout.{pageBytes, flashBytes, ramFrom, ramBytes, optionBytes, memoryBytes};
 ghost use Rattle.request.specs.Request.{transferBytes};
 ghost use Rattle.request.specs.Setup.{dataLength};
 ghost use Rattle.device.specs.WellFormed.{wellFormed};
@@ -15,8 +16,10 @@ ghost use Rattle.memory.specs.Flash.{each, stored};
 ghost use Rattle.memory.specs.Whole.{unprotected};
 ghost use Rattle.decision.specs.Decide.{commandOf};
 ghost use Rattle.hex.specs.Hex.{bytesOf};
+ghost use Rattle.job.specs.Event.{same};
+ghost use Rattle.checker.specs.Verdict.{isLeft};
 ghost use Rattle.checker.specs.Walk.{movedAs};
-ghost use Rattle.checker.specs.Cells.{blockFrom, workBytes, marked, learnt, blockOf, pageErased, pagesErased, worked, workedOf, writes, reports, statusMoves, readsMoves, requestMoves};
+ghost use Rattle.checker.specs.Cells.{blockFrom, workBytes, marked, learnt, blockOf, pageErased, pagesErased, worked, workedOf, writes, reports, statusMoves, readsMoves, requestMoves, begun, suspect, lowestFrom, endVerdict};
 use action::Access;
 use action::Action;
 use board::Board;
@@ -309,5 +312,113 @@ fn request(board: Board, device: Device, setup: Setup, field: &[u8], work: &mut 
         Decision::Read => upload(board, device, setup, work),
         Decision::State => Step::Goes(device),
         Decision::Status => status(board, device, work),
+    }
+}
+
+// The options are known from the start, and nothing else.
+fn begin(board: Board, card: &[u8], work: &mut [u8])
+    requires { ⌜ (length (now work) ≡ workBytes (board .pages)) × (length (now card) ≡ optionBytes) ⌝ }
+    ensures { λ _. ⌜ now (work .exit) ≡ begun (board .pages) (now (card .entry)) (now (work .entry)) ⌝ }
+{
+    let bytes = board.memory_bytes();
+    let options = board.options_from();
+    buffer::fill(work, bytes, bytes + bytes, 0);
+    buffer::put(work, options, card);
+    mark(board, work, options, options + Board::OPTION_BYTES);
+}
+
+// Can flash offset f be wrong on some board?
+fn is_suspect(board: Board, image: &[u8], work: &[u8], f: usize) -> bool
+    requires { ⌜ (length (now work) ≡ workBytes (board .pages)) × (f < flashBytes (board .pages)) × (length (now image) ≤ flashBytes (board .pages)) ⌝ }
+    ensures { λ r. ⌜ r ≡ suspect (board .pages) (now (image .entry)) (now (work .entry)) f ⌝ }
+{
+    let mark = work[board.memory_bytes() + f];
+    if f < image.len() {
+        return differs(mark, work[f], image[f]);
+    }
+    if f < (image.len() + (Board::PAGE - 1)) / Board::PAGE * Board::PAGE {
+        return differs(mark, work[f], 0xFF);
+    }
+    mark == 1
+}
+
+// Can a byte with this mark and value be another than the one wanted?
+fn differs(mark: u8, value: u8, want: u8) -> bool
+    ensures { λ r. ⌜ r ≡ not (eqb mark 1 && eqb value want) ⌝ }
+{
+    if mark != 1 {
+        return true;
+    }
+    value != want
+}
+
+// The lowest suspect offset, or the size of the flash.
+fn first_suspect(board: Board, image: &[u8], work: &[u8]) -> usize
+    requires { ⌜ (length (now work) ≡ workBytes (board .pages)) × (length (now image) ≤ flashBytes (board .pages)) ⌝ }
+    ensures { λ r. ⌜ r ≡ lowestFrom (suspect (board .pages) (now (image .entry)) (now (work .entry))) (flashBytes (board .pages)) 0 ⌝ }
+{
+    let size = board.flash_bytes();
+    let mut f = 0;
+    while f < size {
+        if is_suspect(board, image, work, f) {
+            return f;
+        }
+        f += 1;
+    }
+    f
+}
+
+// Are the options those of the card?
+fn same_options(options: &[u8], card: &[u8]) -> bool
+    requires { ⌜ length (now options) ≡ length (now card) ⌝ }
+    ensures { λ r. ⌜ r ≡ same (now (options .entry)) (now (card .entry)) ⌝ }
+{
+    let mut i = 0;
+    while i < card.len() {
+        if options[i] != card[i] {
+            return false;
+        }
+        i += 1;
+    }
+    true
+}
+
+// The end conditions, then the flash.
+fn finish(board: Board, device: Device, image: &[u8], card: &[u8], work: &[u8]) -> Verdict
+    requires { ⌜ (length (now work) ≡ workBytes (board .pages)) × (length (now image) ≤ flashBytes (board .pages)) × (length (now card) ≡ optionBytes) ⌝ }
+    ensures { λ r. ⌜ r ≡ endVerdict (board .pages) (now (image .entry)) (now (card .entry)) device (now (work .entry)) ⌝ }
+{
+    let mode = device.mode;
+    if !has_left(mode) {
+        return Verdict::End(1);
+    }
+    if device.pointer != Board::FLASH {
+        return Verdict::End(2);
+    }
+    let from = board.options_from();
+    let to = from + Board::OPTION_BYTES;
+    if !same_options(&work[from..to], card) {
+        return Verdict::End(3);
+    }
+    let f = first_suspect(board, image, work);
+    if f < board.flash_bytes() {
+        return Verdict::Flash(f);
+    }
+    Verdict::Pass
+}
+
+fn has_left(mode: Mode) -> bool
+    ensures { λ r. ⌜ r ≡ isLeft mode ⌝ }
+{
+    match mode {
+        Mode::Idle => false,
+        Mode::DownloadSync => false,
+        Mode::DownloadBusy => false,
+        Mode::DownloadIdle => false,
+        Mode::ManifestSync => false,
+        Mode::UploadIdle => false,
+        Mode::Error => false,
+        Mode::Left => true,
+        Mode::Rebooting => false,
     }
 }

@@ -135,16 +135,19 @@ impl Device {
 
     pub const STALLED: u8 = 15;
 
-    // A device that was just plugged in, whatever it was before.
+    // A device that was just plugged in.
+    pub const START: Device = Device {
+        mode: Mode::Idle,
+        status: 0,
+        pointer: Board::FLASH,
+        pending: Pending::Nothing,
+    };
+
+    // An Attach, whatever the device was before.
     pub fn attach(self) -> Device
         ensures { λ r. ⌜ r ≡ started ⌝ }
     {
-        Device {
-            mode: Mode::Idle,
-            status: 0,
-            pointer: Board::FLASH,
-            pending: Pending::Nothing,
-        }
+        Device::START
     }
 
     // Back to idle, with the pointer kept: ABORT, and CLRSTATUS too.

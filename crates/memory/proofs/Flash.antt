@@ -1,4 +1,4 @@
--- Laws of `blank`, `stored` and `erased`: a turn of each loop, its end, and lengths. Assumes nothing.
+-- Laws of `each`, `stored` and `erased`: a turn of each loop, its end, and lengths. Assumes nothing.
 use mathlib.Core.Path.{_≡_, refl, ap, _∙_, sym}
 use mathlib.Core.Bool.{Bool, true, false, cond, _&&_, _||_}
 use mathlib.Core.List.{List, [], _∷_, _++_}
@@ -15,35 +15,35 @@ use Rattle.laws.proofs.Split.{by-bool}
 use Rattle.laws.proofs.Bytes.{filled-length, filled-span}
 use Rattle.board.specs.Layout.{pageBytes}
 use Rattle.board.specs.Protection.{writeProtected}
-use Rattle.memory.specs.Flash.{kept, each, blank, laid, stored, erased, erasedFrom}
+use Rattle.memory.specs.Flash.{kept, each, laid, stored, erased, erasedFrom}
 
--- the erased test, from place i up to place e: a turn
-pub blank-turn : (word : ℕ) (m : List ℕ) (i e : ℕ) → i < e → i < length m → blank word i (e - i) m ≡ ((eqb (getD m i 0) 0xFF || kept word i) && blank word (i + 1) (e - (i + 1)) m)
-unfolding blank each
-blank-turn word m i e h l =
-    let k : e - i ≡ suc (e - (i + 1)) = omega arith in
-    rw (k, drop-cons m i 0 l, add-one i)
+-- a test of bytes w from place j on, which stand for places i up to e
+module _ (v word : ℕ) (w : List ℕ) (i e j : ℕ) (h : i < e) (l : j < length w) where
+  each-turn : each v word i (e - i) (drop j w) ≡ ((eqb (getD w j 0) v || kept word i) && each v word (i + 1) (e - (i + 1)) (drop (j + 1) w))
+  unfolding each
+  each-turn =
+      let k : e - i ≡ suc (e - (i + 1)) = omega arith in
+      rw (k, drop-cons w j 0 l, add-one i, add-one j)
 
-pub blank-end : (word : ℕ) (m : List ℕ) (i e : ℕ) → e ≤ i → blank word i (e - i) m ≡ true
-unfolding blank each
-blank-end word m i e h =
+  -- a turn at a byte that is v, at one of a write-protected page, and at one that fails the test
+  pub each-is : getD w j 0 ≡ v → each v word (i + 1) (e - (i + 1)) (drop (j + 1) w) ≡ each v word i (e - i) (drop j w)
+  each-is z = sym (each-turn ∙ rw (eq-eqb (getD w j 0) v z))
+
+  pub each-kept : (getD w j 0 ≡ v → ⊥) → kept word i ≡ true → each v word (i + 1) (e - (i + 1)) (drop (j + 1) w) ≡ each v word i (e - i) (drop j w)
+  each-kept z k = sym (each-turn ∙ rw (ne-eqb (getD w j 0) v z, k))
+
+  pub each-odd : (getD w j 0 ≡ v → ⊥) → kept word i ≡ false → false ≡ each v word i (e - i) (drop j w)
+  each-odd z k = sym (each-turn ∙ rw (ne-eqb (getD w j 0) v z, k))
+
+pub each-end : (v word : ℕ) (ms : List ℕ) (i e : ℕ) → e ≤ i → each v word i (e - i) ms ≡ true
+unfolding each
+each-end v word ms i e h =
     let k : e - i ≡ 0 = omega arith in
     rw k
 
--- a turn at an erased byte, at a byte of a write-protected page, and at one that fails the test
-module _ (word : ℕ) (m : List ℕ) (i e : ℕ) (h : i < e) (l : i < length m) where
-  pub blank-white : getD m i 0 ≡ 0xFF → blank word (i + 1) (e - (i + 1)) m ≡ blank word i (e - i) m
-  blank-white w = sym (blank-turn word m i e h l ∙ rw (eq-eqb (getD m i 0) 0xFF w))
-
-  pub blank-kept : (getD m i 0 ≡ 0xFF → ⊥) → kept word i ≡ true → blank word (i + 1) (e - (i + 1)) m ≡ blank word i (e - i) m
-  blank-kept w k = sym (blank-turn word m i e h l ∙ rw (ne-eqb (getD m i 0) 0xFF w, k))
-
-  pub blank-not : (getD m i 0 ≡ 0xFF → ⊥) → kept word i ≡ false → false ≡ blank word i (e - i) m
-  blank-not w k = sym (blank-turn word m i e h l ∙ rw (ne-eqb (getD m i 0) 0xFF w, k))
-
 -- a span that is given by its two ends
-pub blank-span : (word at count : ℕ) (m : List ℕ) → blank word at (at + count - at) m ≡ blank word at count m
-blank-span word at count m =
+pub each-span : (v word at count : ℕ) (ms : List ℕ) → each v word at (at + count - at) ms ≡ each v word at count ms
+each-span v word at count ms =
     let e : at + count - at ≡ count = omega arith in
     rw e
 

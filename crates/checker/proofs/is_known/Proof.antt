@@ -1,10 +1,12 @@
 -- `checker::is_known` meets its contract. Assumes nothing.
+use Rattle.memory.proofs.Flash.{each-is, each-kept, each-odd, each-end, each-span}
+-- `checker::is_known` meets its contract. Assumes nothing.
 use native.Mathlib.Omega.{arith}
-use Rattle.checker.proofs.Loops.{each-is, each-kept, each-odd, each-end, each-span}
+use Rattle.checker.proofs.Loops.{next-mark}
 use Rattle.memory.specs.Flash.{each}
 use borrow.Author.Tests.{not-true, not-false}
-use lib.ListN.{drop}
-use Prim.Native.Nat.{_+_, _-_, _≤_}
+use lib.ListN.{drop, length}
+use Prim.Native.Nat.{_+_, _-_, _≤_, _<_}
 use mathlib.Core.Logic.{⊎-elim}
 use mathlib.Core.Path.{_≡_, sym, _∙_}
 use Rattle.checker.proofs.is_known.Statement.{statement}
@@ -38,8 +40,10 @@ returns : tie.Need-returns Inv-loop μ-loop
 returns c =
     let w = c .before in
     let l = w .before .before .before .before in
-    let m = l .before .memory-bytes .ensures in
-    each-odd _ _ _ _ _ _ (w .before .before .before .loop-test .taken) (omega arith) (w .before .if1 .taken) (sym (w .write-protected .ensures) ∙ not-true _ (c .if2 .taken)) ∙ l .loop .inv .0 ∙ rw m
+    let m = l .before .memory-bytes in
+    let s = l .before .before .before in
+    let inside : m .result + l .loop .i < length (s .args .work .now) = omega arith in
+    each-odd _ _ _ _ _ _ (w .before .before .before .loop-test .taken) inside (w .before .if1 .taken) (sym (w .write-protected .ensures) ∙ not-true _ (c .if2 .taken)) ∙ l .loop .inv .0 ∙ rw (m .ensures)
 
 add-i : tie.Need-add-i Inv-loop μ-loop
 add-i c = omega arith
@@ -50,16 +54,20 @@ loop-less c = omega arith
 loop-again : tie.Need-loop-again Inv-loop μ-loop
 loop-again c =
     let l = c .before .before .before in
-    let more = c .before .before .loop-test .taken in (
-      ⊎-elim
-          (λ w. each-kept _ _ _ _ _ _ more (omega arith) (w .0 .taken) (sym (w .1 .ensures) ∙ not-false _ (w .2 .left)) ∙ l .loop .inv .0)
-          (λ w. each-is _ _ _ _ _ _ more (omega arith) (w .left) ∙ l .loop .inv .0)
+    let m = l .before .memory-bytes in
+    let s = l .before .before .before in
+    let more = c .before .before .loop-test .taken in
+    let inside : m .result + l .loop .i < length (s .args .work .now) = omega arith in (
+      next-mark _ _ _ _ _ _
+          ∙ ⊎-elim
+          (λ w. each-kept _ _ _ _ _ _ more inside (w .0 .taken) (sym (w .1 .ensures) ∙ not-false _ (w .2 .left)) ∙ l .loop .inv .0)
+          (λ w. each-is _ _ _ _ _ _ more inside (w .left) ∙ l .loop .inv .0)
           (c .if1 .came),
       omega arith,
     )
 
 returns-2 : tie.Need-returns-2 Inv-loop μ-loop
-returns-2 c = sym (each-end _ _ _ _ _ _ (c .loop-test .left)) ∙ c .before .loop .inv .0 ∙ rw (c .before .before .memory-bytes .ensures)
+returns-2 c = sym (each-end _ _ _ _ _ (c .loop-test .left)) ∙ c .before .loop .inv .0 ∙ rw (c .before .before .memory-bytes .ensures)
 
 pub is-known-spec : {M : Type 1} → statement M
 is-known-spec =

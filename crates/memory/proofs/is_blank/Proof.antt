@@ -1,16 +1,18 @@
 -- `memory::is_blank` meets its contract. Assumes nothing.
+use lib.ListN.{drop, length}
+-- `memory::is_blank` meets its contract. Assumes nothing.
 use native.Mathlib.Omega.{arith}
-use Rattle.memory.proofs.Flash.{blank-white, blank-kept, blank-not, blank-end, blank-span}
-use Rattle.memory.specs.Flash.{blank}
+use Rattle.memory.proofs.Flash.{each-is, each-kept, each-odd, each-end, each-span}
+use Rattle.memory.specs.Flash.{each, blank}
 use borrow.Author.Tests.{not-true, not-false}
-use Prim.Native.Nat.{_-_, _≤_}
+use Prim.Native.Nat.{_-_, _≤_, _<_}
 use mathlib.Core.Logic.{⊎-elim}
 use mathlib.Core.Path.{_≡_, sym, _∙_}
 use Rattle.memory.proofs.is_blank.Statement.{statement}
 use Rattle.memory.proofs.is_blank.Tie as tie
 
 abbrev Inv-loop : tie.InvT-loop
-Inv-loop memory word at count end i₀ i = (blank word i (end - i) memory ≡ blank word at count memory) × (at ≤ i)
+Inv-loop memory word at count end i₀ i = (each 0xFF word i (end - i) (drop i memory) ≡ each 0xFF word at count (drop at memory)) × (at ≤ i)
 
 abbrev μ-loop : tie.MeasureT-loop
 μ-loop memory word at count end i₀ i = end - i
@@ -19,7 +21,7 @@ add-end : tie.Need-add-end Inv-loop μ-loop
 add-end c = omega arith
 
 loop-holds : tie.Need-loop-holds Inv-loop μ-loop
-loop-holds c = (blank-span _ _ _ _, omega arith)
+loop-holds c = (each-span _ _ _ _ _, omega arith)
 
 shared-slice-read-if1 : tie.Need-shared-slice-read-if1 Inv-loop μ-loop
 shared-slice-read-if1 c = omega arith
@@ -28,10 +30,13 @@ write-protected-requires : tie.Need-write-protected-requires Inv-loop μ-loop
 write-protected-requires c κs = omega arith
 
 returns : tie.Need-returns Inv-loop μ-loop
+unfolding blank
 returns c =
     let w = c .before in
     let l = w .before .before .before .before in
-    blank-not _ _ _ _ (w .before .before .before .loop-test .taken) (omega arith) (w .before .if1 .taken) (sym (w .write-protected .ensures) ∙ not-true _ (c .if2 .taken)) ∙ l .loop .inv .0
+    let s = l .before .before in
+    let inside : l .loop .i < length (s .args .memory .now) = omega arith in
+    each-odd _ _ _ _ _ _ (w .before .before .before .loop-test .taken) inside (w .before .if1 .taken) (sym (w .write-protected .ensures) ∙ not-true _ (c .if2 .taken)) ∙ l .loop .inv .0
 
 add-i : tie.Need-add-i Inv-loop μ-loop
 add-i c = omega arith
@@ -42,16 +47,19 @@ loop-less c = omega arith
 loop-again : tie.Need-loop-again Inv-loop μ-loop
 loop-again c =
     let l = c .before .before .before in
-    let more = c .before .before .loop-test .taken in (
+    let s = l .before .before in
+    let more = c .before .before .loop-test .taken in
+    let inside : l .loop .i < length (s .args .memory .now) = omega arith in (
       ⊎-elim
-          (λ w. blank-kept _ _ _ _ more (omega arith) (w .0 .taken) (sym (w .1 .ensures) ∙ not-false _ (w .2 .left)) ∙ l .loop .inv .0)
-          (λ w. blank-white _ _ _ _ more (omega arith) (w .left) ∙ l .loop .inv .0)
+          (λ w. each-kept _ _ _ _ _ _ more inside (w .0 .taken) (sym (w .1 .ensures) ∙ not-false _ (w .2 .left)) ∙ l .loop .inv .0)
+          (λ w. each-is _ _ _ _ _ _ more inside (w .left) ∙ l .loop .inv .0)
           (c .if1 .came),
       omega arith,
     )
 
 returns-2 : tie.Need-returns-2 Inv-loop μ-loop
-returns-2 c = sym (blank-end _ _ _ _ (c .loop-test .left)) ∙ c .before .loop .inv .0
+unfolding blank
+returns-2 c = sym (each-end _ _ _ _ _ (c .loop-test .left)) ∙ c .before .loop .inv .0
 
 pub is-blank-spec : {M : Type 1} → statement M
 is-blank-spec =

@@ -1,0 +1,108 @@
+-- The walk over a text, event by event, and the loops at its end. Assumes nothing.
+use mathlib.Core.Path.{_≡_, refl, ap, _∙_, sym}
+use mathlib.Core.Bool.{Bool, true, false, cond, not, _&&_}
+use mathlib.Core.List.{List, [], _∷_, _++_}
+use Prim.Native.Nat.{ℕ, zero, suc, _+_, _-_, _*_, _≤_, _<_}
+use native.Mathlib.Omega.{arith}
+use native.Mathlib.Numerals.{add-one}
+use lib.Dec.{eqb, ltb}
+use lib.ListN.{length, take, drop, getD, drop-of-length-le}
+use lib.Seq.{drop-cons}
+use borrow.Author.Tests.{ne-eqb, eq-eqb, lt-ltb, le-ltb}
+use Rattle.laws.specs.Bytes.{put, filled}
+use Rattle.board.specs.Layout.{flashFirst, flashBytes, memoryBytes, optionsFrom, optionBytes}
+use Rattle.device.specs.declared.Device.{Device}
+use Rattle.job.specs.Event.{same}
+use Rattle.checker.specs.declared.Verdict.the-variants as verdict
+use Rattle.checker.specs.Verdict.{isLeft, pagesEnd}
+use Rattle.checker.specs.Cells.{marked, learnt, begun, suspect, lowestFrom, endVerdict}
+
+pub lowest-found : (test : ℕ → Bool) (i e : ℕ) → i < e → test i ≡ true → i ≡ lowestFrom test (e - i) i
+unfolding lowestFrom
+lowest-found test i e h t =
+    let k : e - i ≡ suc (e - (i + 1)) = omega arith in
+    rw (k, t)
+
+pub lowest-on : (test : ℕ → Bool) (i e : ℕ) → i < e → test i ≡ false → lowestFrom test (e - (i + 1)) (i + 1) ≡ lowestFrom test (e - i) i
+unfolding lowestFrom
+lowest-on test i e h t =
+    let k : e - i ≡ suc (e - (i + 1)) = omega arith in
+    rw (k, t, add-one i)
+
+pub lowest-end : (test : ℕ → Bool) (i e : ℕ) → e ≤ i → i ≡ lowestFrom test (e - i) i
+unfolding lowestFrom
+lowest-end test i e h =
+    let k : e - i ≡ 0 = omega arith in
+    rw k
+
+-- two lists, compared byte by byte
+module _ (xs ys : List ℕ) (i : ℕ) (l : length xs ≡ length ys) (h : i < length ys) where
+  same-turn : same (drop i xs) (drop i ys) ≡ (eqb (getD xs i 0) (getD ys i 0) && same (drop (i + 1) xs) (drop (i + 1) ys))
+  unfolding same
+  same-turn =
+      let hx : i < length xs = omega arith in
+      rw (drop-cons xs i 0 hx, drop-cons ys i 0 h, add-one i)
+
+  pub same-on : getD xs i 0 ≡ getD ys i 0 → same (drop (i + 1) xs) (drop (i + 1) ys) ≡ same (drop i xs) (drop i ys)
+  same-on e = sym (same-turn ∙ rw (eq-eqb (getD xs i 0) (getD ys i 0) e))
+
+  pub same-not : (getD xs i 0 ≡ getD ys i 0 → ⊥) → false ≡ same (drop i xs) (drop i ys)
+  same-not e = sym (same-turn ∙ rw (ne-eqb (getD xs i 0) (getD ys i 0) e))
+
+pub same-end : (xs ys : List ℕ) (i : ℕ) → length xs ≡ length ys → length ys ≤ i → same (drop i xs) (drop i ys) ≡ true
+unfolding same
+same-end xs ys i l h =
+    let hx : length xs ≤ i = omega arith in
+    rw (drop-of-length-le xs hx, drop-of-length-le ys h)
+
+-- the start of the work area: marks cleared, the card laid and marked
+pub begun-is : (n bytes options : ℕ) (card w w₁ w₂ w₃ : List ℕ) → bytes ≡ memoryBytes n → options ≡ optionsFrom n → length card ≡ optionBytes → w₁ ≡ filled bytes (bytes + bytes - bytes) 0 w → w₂ ≡ put options card w₁ → w₃ ≡ marked n options (options + optionBytes - options) w₂ → w₃ ≡ begun n card w
+unfolding begun learnt
+begun-is n bytes options card w w₁ w₂ w₃ b o l e₁ e₂ e₃ =
+    let k : bytes + bytes - bytes ≡ bytes = omega arith in
+    let m : options + optionBytes - options ≡ length card = omega arith in
+    e₃ ∙ rw (e₂, e₁, m, k, o, b)
+
+-- the three kinds of place, each with its test
+module _ (n : ℕ) (image w : List ℕ) (f bytes : ℕ) (b : bytes ≡ memoryBytes n) where
+  pub suspect-image : f < length image → suspect n image w f ≡ not (eqb (getD w (bytes + f) 0) 1 && eqb (getD w f 0) (getD image f 0))
+  unfolding suspect
+  suspect-image h = rw (lt-ltb f (length image) h, b)
+
+  pub suspect-rest : length image ≤ f → f < pagesEnd image → suspect n image w f ≡ not (eqb (getD w (bytes + f) 0) 1 && eqb (getD w f 0) 0xFF)
+  unfolding suspect
+  suspect-rest h k = rw (le-ltb f (length image) h, lt-ltb f (pagesEnd image) k, b)
+
+  pub suspect-other : length image ≤ f → pagesEnd image ≤ f → suspect n image w f ≡ eqb (getD w (bytes + f) 0) 1
+  unfolding suspect
+  suspect-other h k = rw (le-ltb f (length image) h, le-ltb f (pagesEnd image) k, b)
+
+-- the end conditions, each by the tests that lead to it
+module _ (n : ℕ) (image card : List ℕ) (d : Device) (w : List ℕ) where
+  pub end-mode : isLeft (d .mode) ≡ false → verdict.End 1 ≡ endVerdict n image card d w
+  unfolding endVerdict
+  end-mode a = rw a
+
+  pub end-pointer : isLeft (d .mode) ≡ true → (d .pointer ≡ flashFirst → ⊥) → verdict.End 2 ≡ endVerdict n image card d w
+  unfolding endVerdict
+  end-pointer a b = rw (a, ne-eqb (d .pointer) flashFirst b)
+
+  pub end-options : isLeft (d .mode) ≡ true → d .pointer ≡ flashFirst → same (take optionBytes (drop (optionsFrom n) w)) card ≡ false → verdict.End 3 ≡ endVerdict n image card d w
+  unfolding endVerdict
+  end-options a b c = rw (a, eq-eqb (d .pointer) flashFirst b, c)
+
+  end-flash : (f size : ℕ) → isLeft (d .mode) ≡ true → d .pointer ≡ flashFirst → same (take optionBytes (drop (optionsFrom n) w)) card ≡ true → f ≡ lowestFrom (suspect n image w) (flashBytes n) 0 → size ≡ flashBytes n → cond (ltb f size) (verdict.Flash f) verdict.Pass ≡ endVerdict n image card d w
+  unfolding endVerdict
+  end-flash f size a b c e s = rw (a, eq-eqb (d .pointer) flashFirst b, c, ← e, s)
+
+  pub end-wrong : (f size : ℕ) → isLeft (d .mode) ≡ true → d .pointer ≡ flashFirst → same (take optionBytes (drop (optionsFrom n) w)) card ≡ true → f ≡ lowestFrom (suspect n image w) (flashBytes n) 0 → size ≡ flashBytes n → f < size → verdict.Flash f ≡ endVerdict n image card d w
+  end-wrong f size a b c e s h = rw (lt-ltb f size h) at (end-flash f size a b c e s)
+
+  pub end-right : (f size : ℕ) → isLeft (d .mode) ≡ true → d .pointer ≡ flashFirst → same (take optionBytes (drop (optionsFrom n) w)) card ≡ true → f ≡ lowestFrom (suspect n image w) (flashBytes n) 0 → size ≡ flashBytes n → size ≤ f → verdict.Pass ≡ endVerdict n image card d w
+  end-right f size a b c e s h = rw (le-ltb f size h) at (end-flash f size a b c e s)
+
+-- the options as a part of the work area
+pub options-part : (n from : ℕ) (w card : List ℕ) (b : Bool) → from ≡ optionsFrom n → b ≡ same (take (from + optionBytes - from) (drop from w)) card → same (take optionBytes (drop (optionsFrom n) w)) card ≡ b
+options-part n from w card b f e =
+    let k : from + optionBytes - from ≡ optionBytes = omega arith in
+    sym (e ∙ rw (k, f))
