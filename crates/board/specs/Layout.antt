@@ -12,21 +12,21 @@ abbrev pub pageBytes : ℕ
 pageBytes = 1024
 
 abbrev pub flashFirst : ℕ
-flashFirst = 134217728  -- 0x08000000
+flashFirst = 0x08000000
 
 abbrev pub flashBytes : ℕ → ℕ
 flashBytes n = n * pageBytes
 
 -- table, row RAM
 abbrev pub ramFirst : ℕ
-ramFirst = 536870912  -- 0x20000000
+ramFirst = 0x20000000
 
 abbrev pub ramBytes : ℕ
 ramBytes = 2048
 
 -- table, row options
 abbrev pub optionsFirst : ℕ
-optionsFirst = 536868864  -- 0x1FFFF800
+optionsFirst = 0x1FFFF800
 
 abbrev pub optionBytes : ℕ
 optionBytes = 16
@@ -44,4 +44,4 @@ memoryBytes n = optionsFrom n + optionBytes
 
 -- "Default options"
 abbrev pub defaults : List ℕ
-defaults = 0xAA ∷ replicate 15 255
+defaults = 0xAA ∷ replicate 15 0xFF

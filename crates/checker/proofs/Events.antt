@@ -63,14 +63,14 @@ pub record Stands (n : ℕ) (m₀ : List ℕ) (x : World) (d : Device) (w : List
   pub reply : length (x .reply) ≡ transferBytes
 
 -- a fault that only a Reply to a GETSTATUS has
-or-false : (a : Bool) → (a && false) ≡ false
-or-false true = refl
-or-false false = refl
+and-false : (a : Bool) → (a && false) ≡ false
+and-false true = refl
+and-false false = refl
 
 -- the answer Accepted never fails
 accepted-fine : (e : Event) (o : Outcome) → o .answer ≡ 0 ∷ [] → fails e o ≡ false
 unfolding fails
-accepted-fine e o a = rw a (or-false (asksStatus e))
+accepted-fine e o a = rw a (and-false (asksStatus e))
 
 -- nor does a Reply to what is no GETSTATUS
 reply-fine : (e : Event) (o : Outcome) (count : ℕ) → o .answer ≡ 1 ∷ count ∷ [] → asksStatus e ≡ false → fails e o ≡ false
@@ -79,7 +79,7 @@ reply-fine e o count a s = rw (a, s)
 
 status-fine : (e : Event) (o : Outcome) (count : ℕ) → o .answer ≡ 1 ∷ count ∷ [] → getD (o .reply) 0 0 ≡ 0 → fails e o ≡ false
 unfolding fails
-status-fine e o count a z = rw (a, z) (or-false (asksStatus e))
+status-fine e o count a z = rw (a, z) (and-false (asksStatus e))
 
 status-fails : (e : Event) (o : Outcome) (count : ℕ) → o .answer ≡ 1 ∷ count ∷ [] → asksStatus e ≡ true → eqb (getD (o .reply) 0 0) 0 ≡ false → fails e o ≡ true
 unfolding fails

@@ -54,7 +54,7 @@ pub record OnSome (n : ℕ) (card : List ℕ) (fault : World → Bool) : Type 0 
 abbrev pub OnNone : ℕ → List ℕ → (World → Bool) → Type 0
 OnNone n card fault = (w : World) → Fresh n card w → fault w ≡ false
 
--- x is the least number below `limit` whose fault some board shows
+-- x is the least number whose fault some board shows
 pub record Least (n : ℕ) (card : List ℕ) (fault : ℕ → World → Bool) (x : ℕ) : Type 0 where
   pub here : OnSome n card (fault x)
   pub before : (j : ℕ) → j < x → OnNone n card (fault j)

@@ -28,8 +28,6 @@ use decision::Decision;
 use device::Device;
 use device::Mode;
 use device::Ran;
-use job::Done;
-use job::Item;
 use refusal::Refusal;
 use request::Setup;
 
