@@ -14,7 +14,7 @@ use Rattle.board.specs.Layout.{pageBytes, memoryBytes}
 use Rattle.board.specs.Protection.{writeProtected}
 use Rattle.memory.specs.Flash.{kept, each, stored}
 use Rattle.memory.proofs.Flash.{stored-open, stored-kept, stored-end}
-use Rattle.checker.specs.Cells.{marked, learnt, blockFrom, blockOf, pageErased, pagesErased}
+use Rattle.cells.specs.Cells.{marked, learnt, blockFrom, blockOf, pageErased, pagesErased}
 
 -- the place behind a mark, which stands o places behind its byte
 pub next-mark : (v word o i count : ℕ) (w : List ℕ) → each v word (i + 1) count (drop (o + (i + 1)) w) ≡ each v word (i + 1) count (drop (o + i + 1) w)

@@ -13,9 +13,9 @@ use Rattle.laws.specs.Bytes.{put, filled}
 use Rattle.board.specs.Layout.{flashFirst, flashBytes, memoryBytes, optionsFrom, optionBytes}
 use Rattle.device.specs.declared.Device.{Device}
 use Rattle.job.specs.Event.{same}
-use Rattle.checker.specs.declared.Verdict.the-variants as verdict
-use Rattle.checker.specs.Verdict.{isLeft, pagesEnd}
-use Rattle.checker.specs.Cells.{marked, learnt, begun, suspect, lowestFrom, endVerdict}
+use Rattle.verdict.specs.declared.Verdict.the-variants as verdict
+use Rattle.verdict.specs.Verdict.{isLeft, pagesEnd}
+use Rattle.cells.specs.Cells.{marked, learnt, begun, suspect, lowestFrom, endVerdict}
 
 pub lowest-found : (test : ℕ → Bool) (i e : ℕ) → i < e → test i ≡ true → i ≡ lowestFrom test (e - i) i
 unfolding lowestFrom

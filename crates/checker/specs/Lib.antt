@@ -1,4 +1,1 @@
-pub mod World
-pub mod Verdict
-pub mod Cells
 pub mod Walk

@@ -3,7 +3,7 @@ use mathlib.Core.List.{List}
 use Prim.Native.Nat.{ℕ}
 use Rattle.checker.specs.declared.Step.{Step}
 use Rattle.checker.specs.declared.Step.the-variants as step
-use Rattle.checker.specs.Cells.{Moved, falls, goes}
+use Rattle.cells.specs.Cells.{Moved, falls, goes}
 
 -- an event's outcome, with the work area that it left
 abbrev pub movedAs : Step → List ℕ → Moved

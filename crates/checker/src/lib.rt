@@ -17,9 +17,9 @@ ghost use Rattle.memory.specs.Whole.{unprotected};
 ghost use Rattle.decision.specs.Decide.{commandOf};
 ghost use Rattle.hex.specs.Hex.{bytesOf};
 ghost use Rattle.job.specs.Event.{same};
-ghost use Rattle.checker.specs.Verdict.{isLeft};
+ghost use Rattle.verdict.specs.Verdict.{isLeft};
 ghost use Rattle.checker.specs.Walk.{movedAs};
-ghost use Rattle.checker.specs.Cells.{blockFrom, workBytes, marked, learnt, blockOf, pageErased, pagesErased, worked, workedOf, writes, reports, statusMoves, readsMoves, requestMoves, begun, suspect, lowestFrom, endVerdict};
+ghost use Rattle.cells.specs.Cells.{blockFrom, workBytes, marked, learnt, blockOf, pageErased, pagesErased, worked, workedOf, writes, reports, statusMoves, readsMoves, requestMoves, begun, suspect, lowestFrom, endVerdict};
 use action::Access;
 use action::Action;
 use board::Board;
@@ -28,20 +28,8 @@ use decision::Decision;
 use device::Device;
 use device::Mode;
 use device::Ran;
-use refusal::Refusal;
 use request::Setup;
-
-// What is to be said of a job.
-pub enum Verdict {
-    Pass,
-    // The event, from 1, that fails on some board.
-    Event(usize),
-    // The end condition that fails.
-    End(u8),
-    // The lowest flash offset that is wrong on some board.
-    Flash(usize),
-    Refused(Refusal),
-}
+use verdict::Verdict;
 
 // The work area's block, behind values and marks.
 fn block_from(board: Board) -> usize

@@ -1,7 +1,7 @@
 -- `checker::erase_all` meets its contract. Assumes nothing.
 use native.Mathlib.Omega.{arith}
 use Rattle.checker.proofs.Loops.{erase-turn, erase-end}
-use Rattle.checker.specs.Cells.{pagesErased}
+use Rattle.cells.specs.Cells.{pagesErased}
 use lib.ListN.{length}
 use native.Mathlib.Nat.{sub-zero}
 use Prim.Native.Nat.{_-_}

@@ -1,7 +1,7 @@
 -- `checker::unprotect` meets its contract. Assumes nothing.
 use mathlib.Core.List.{[]}
 use Rattle.checker.proofs.Answers.{whole-is, front-back}
-use Rattle.checker.proofs.Actions.{unprotected-length}
+use Rattle.cells.proofs.Actions.{unprotected-length}
 use borrow.Author.Needs.{needs}
 use Rattle.checker.proofs.unprotect.Statement.{statement}
 use Rattle.checker.proofs.unprotect.Tie as tie

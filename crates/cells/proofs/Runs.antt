@@ -13,10 +13,10 @@ use Rattle.device.proofs.Form.{Form}
 use Rattle.loader.specs.declared.Event.the-variants as event
 use Rattle.loader.proofs.Form.{step-form}
 use Rattle.job.specs.Event.{Event, attach, request}
-use Rattle.checker.specs.World.{World, worldOf, steppedOf, after, fails, failsAt}
-use Rattle.checker.specs.Cells.{Moved, falls, goes, Over, fell, ended, onward, moves, overOf}
-use Rattle.checker.proofs.Moves.{Held, falls-not}
-use Rattle.checker.proofs.Events.{Stands, Fitting, event-on, event-down}
+use Rattle.verdict.specs.World.{World, worldOf, steppedOf, after, fails, failsAt}
+use Rattle.cells.specs.Cells.{Moved, falls, goes, Over, fell, ended, onward, moves, overOf}
+use Rattle.cells.proofs.Moves.{Held, falls-not}
+use Rattle.cells.proofs.Events.{Stands, Fitting, event-on, event-down}
 
 -- every event of the job has its data
 abbrev pub AllFit : List Event → Type 0

@@ -35,10 +35,10 @@ use Rattle.action.specs.Action.{storeAt, pointOf, eraseAt, eraseOf, actionIn, a
 use Rattle.loader.specs.Perform.{Performed, performedOf, countOf}
 use Rattle.loader.specs.Serve.{Run, run, runOf}
 use Rattle.loader.proofs.Bounds.{Fits, action-fits}
-use Rattle.checker.specs.Cells.{Moved, falls, goes, blockFrom, workBytes, blockOf, workedOf, reports, runs, statusMoves}
-use Rattle.checker.proofs.Likeness.{Alike}
-use Rattle.checker.proofs.Actions.{protection-same}
-use Rattle.checker.proofs.Performs.{Performs, performs-well, performs-ill}
+use Rattle.cells.specs.Cells.{Moved, falls, goes, blockFrom, workBytes, blockOf, workedOf, reports, runs, statusMoves}
+use Rattle.cells.proofs.Likeness.{Alike}
+use Rattle.cells.proofs.Actions.{protection-same}
+use Rattle.cells.proofs.Performs.{Performs, performs-well, performs-ill}
 
 -- a pending write's bytes are in the board's block buffer and in the work area
 abbrev pub Held : ℕ → Pending → List ℕ → List ℕ → Type 0

@@ -47,12 +47,12 @@ use Rattle.loader.specs.Answer.{Outcome, outcome}
 use Rattle.loader.specs.Serve.{InOrder, runOf, statusBytes, statusOf, readAt, readOf, commandCodes, actedOf, serveOf}
 use Rattle.loader.specs.Step.{admittedOf, stepOf}
 use Rattle.job.specs.Event.{Event, attach, request}
-use Rattle.checker.specs.World.{World, worldOf, steppedOf, fails, asksStatus, isGetStatus}
-use Rattle.checker.specs.Cells.{known, blockFrom, workBytes, blockOf, Moved, falls, goes, readMoves, readsMoves, statusMoves, decisionMoves, requestMoves, moves}
-use Rattle.checker.proofs.Likeness.{Alike}
-use Rattle.checker.proofs.Learnt.{put-outside}
-use Rattle.checker.proofs.Actions.{protection-same}
-use Rattle.checker.proofs.Moves.{Held, Ran′, goes-device, goes-work, falls-not, status-goes, status-falls}
+use Rattle.verdict.specs.World.{World, worldOf, steppedOf, fails, asksStatus, isGetStatus}
+use Rattle.cells.specs.Cells.{known, blockFrom, workBytes, blockOf, Moved, falls, goes, readMoves, readsMoves, statusMoves, decisionMoves, requestMoves, moves}
+use Rattle.cells.proofs.Likeness.{Alike}
+use Rattle.cells.proofs.Learnt.{put-outside}
+use Rattle.cells.proofs.Actions.{protection-same}
+use Rattle.cells.proofs.Moves.{Held, Ran′, goes-device, goes-work, falls-not, status-goes, status-falls}
 
 -- a board that began with memory m₀ stands where the device d and the work area w say
 pub record Stands (n : ℕ) (m₀ : List ℕ) (x : World) (d : Device) (w : List ℕ) : Type 0 where

@@ -17,9 +17,9 @@ use Rattle.board.specs.Protection.{readProtected, wordOf, writeProtected}
 use Rattle.memory.specs.Flash.{kept, each, blank, stored, erased, erasedFrom, erasedAll}
 use Rattle.memory.specs.Whole.{unprotected, ramCleared}
 use Rattle.memory.proofs.Places.{stored-length, stored-outside, stored-spares, stored-puts, each-all, each-if, each-not, Odd}
-use Rattle.checker.specs.Cells.{known, learnt, workBytes, surely, pageErased, pagesErased}
-use Rattle.checker.proofs.Learnt.{Outside}
-use Rattle.checker.proofs.Likeness.{cellOf, Alike, among, learnt-alike}
+use Rattle.cells.specs.Cells.{known, learnt, workBytes, surely, pageErased, pagesErased}
+use Rattle.cells.proofs.Learnt.{Outside}
+use Rattle.cells.proofs.Likeness.{cellOf, Alike, among, learnt-alike}
 
 -- a list of equal bytes, laid over the memory and learnt
 same-bytes : (n from count v : ℕ) (m₀ m w : List ℕ) → from + count ≤ memoryBytes n → Alike n m₀ m w → Alike n m₀ (filled from count v m) (learnt n from (replicate count v) w)

@@ -16,15 +16,15 @@ use Rattle.device.specs.State.{started}
 use Rattle.loader.proofs.Form.{started-form}
 use Rattle.hex.specs.Hex.{allBytes}
 use Rattle.job.specs.Event.{Event, same}
-use Rattle.checker.specs.declared.Verdict.{Verdict}
-use Rattle.checker.specs.declared.Verdict.the-variants as verdict
-use Rattle.checker.specs.World.{World, Fresh, after, failsAt}
-use Rattle.checker.specs.Verdict.{isLeft, endFault, pagesEnd, wantedAt, wrongAt, OnSome, OnNone, Least, RunsClean, EndsWell, FlashRight, Judged}
-use Rattle.checker.specs.Cells.{known, workBytes, begun, Over, fell, ended, overOf, suspect, lowestFrom, flashVerdict, endVerdict, overVerdict, verdictOf}
-use Rattle.checker.proofs.Likeness.{Alike, cellOf}
-use Rattle.checker.proofs.Events.{Stands}
-use Rattle.checker.proofs.Runs.{AllFit, run-ends, run-before, run-falls, fell-above}
-use Rattle.checker.proofs.Boards.{fresh-stands, plain, plain-fresh, plain-byte}
+use Rattle.verdict.specs.declared.Verdict.{Verdict}
+use Rattle.verdict.specs.declared.Verdict.the-variants as verdict
+use Rattle.verdict.specs.World.{World, Fresh, after, failsAt}
+use Rattle.verdict.specs.Verdict.{isLeft, endFault, pagesEnd, wantedAt, wrongAt, OnSome, OnNone, Least, RunsClean, EndsWell, FlashRight, Judged}
+use Rattle.cells.specs.Cells.{known, workBytes, begun, Over, fell, ended, overOf, suspect, lowestFrom, flashVerdict, endVerdict, overVerdict, verdictOf}
+use Rattle.cells.proofs.Likeness.{Alike, cellOf}
+use Rattle.cells.proofs.Events.{Stands}
+use Rattle.cells.proofs.Runs.{AllFit, run-ends, run-before, run-falls, fell-above}
+use Rattle.cells.proofs.Boards.{fresh-stands, plain, plain-fresh, plain-byte}
 
 -- the lowest number at which a test holds
 lowest-before : (test : ℕ → Bool) (count i : ℕ) → (j : ℕ) → i ≤ j → j < lowestFrom test count i → test j ≡ false

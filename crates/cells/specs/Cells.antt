@@ -30,9 +30,9 @@ use Rattle.action.specs.Action.{actionOf, ranOf}
 use Rattle.memory.specs.Flash.{each, blank, stored}
 use Rattle.memory.specs.Whole.{unprotected}
 use Rattle.job.specs.Event.{Event, attach, request, same}
-use Rattle.checker.specs.declared.Verdict.{Verdict}
-use Rattle.checker.specs.declared.Verdict.the-variants as verdict
-use Rattle.checker.specs.Verdict.{isLeft, pagesEnd}
+use Rattle.verdict.specs.declared.Verdict.{Verdict}
+use Rattle.verdict.specs.declared.Verdict.the-variants as verdict
+use Rattle.verdict.specs.Verdict.{isLeft, pagesEnd}
 
 -- the work area: values, then marks, then the block
 abbrev pub blockFrom : ℕ → ℕ

@@ -17,11 +17,11 @@ use Rattle.board.specs.Layout.{optionsFrom, optionBytes, memoryBytes}
 use Rattle.request.specs.Request.{transferBytes}
 use Rattle.device.specs.State.{started}
 use Rattle.hex.specs.Hex.{allBytes}
-use Rattle.checker.specs.World.{World, Fresh}
-use Rattle.checker.specs.Cells.{known, learnt, begun, workBytes}
-use Rattle.checker.proofs.Learnt.{learnt-length, learnt-known, learnt-value, learnt-known-outside}
-use Rattle.checker.proofs.Likeness.{Alike}
-use Rattle.checker.proofs.Events.{Stands}
+use Rattle.verdict.specs.World.{World, Fresh}
+use Rattle.cells.specs.Cells.{known, learnt, begun, workBytes}
+use Rattle.cells.proofs.Learnt.{learnt-length, learnt-known, learnt-value, learnt-known-outside}
+use Rattle.cells.proofs.Likeness.{Alike}
+use Rattle.cells.proofs.Events.{Stands}
 
 module _ (n : ℕ) (card w : List ℕ) (lw : length w ≡ workBytes n) (lc : length card ≡ optionBytes) where
   -- the work area with no mark set

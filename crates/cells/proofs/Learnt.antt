@@ -11,7 +11,7 @@ use Rattle.laws.specs.Bytes.{put, filled}
 use Rattle.laws.proofs.Bytes.{put-length}
 use Rattle.laws.proofs.Places.{put-before, put-in, put-after}
 use Rattle.board.specs.Layout.{memoryBytes}
-use Rattle.checker.specs.Cells.{known, marked, learnt, workBytes}
+use Rattle.cells.specs.Cells.{known, marked, learnt, workBytes}
 
 -- outside the places from `from` on
 abbrev pub Outside : ℕ → ℕ → ℕ → Type 0

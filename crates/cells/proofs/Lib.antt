@@ -1,0 +1,9 @@
+pub mod Learnt
+pub mod Likeness
+pub mod Actions
+pub mod Performs
+pub mod Moves
+pub mod Events
+pub mod Runs
+pub mod Boards
+pub mod Judgement
