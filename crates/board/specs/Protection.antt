@@ -6,13 +6,20 @@ use lib.Dec.{eqb}
 use lib.ListN.{getD}
 use Rattle.board.specs.Layout.{optionsFrom}
 
--- "byte 0 is 0xAA for no read protection, any other value for protected"; m is the memory buffer
-unfoldable pub readProtected : ℕ → List ℕ → Bool
-readProtected n m = not (eqb (getD m (optionsFrom n) 0) 0xAA)
+-- "byte 0 is 0xAA for no read protection, any other value for protected"; the option bytes stand in m from place `from` on
+unfoldable pub lockedFrom : ℕ → List ℕ → Bool
+lockedFrom from m = not (eqb (getD m from 0) 0xAA)
 
 -- "Bytes 8 and 9, low byte first"
+unfoldable pub wordFrom : ℕ → List ℕ → ℕ
+wordFrom from m = getD m (from + 8) 0 + getD m (from + 9) 0 * 256
+
+-- the same of the memory buffer m
+unfoldable pub readProtected : ℕ → List ℕ → Bool
+readProtected n m = lockedFrom (optionsFrom n) m
+
 unfoldable pub wordOf : ℕ → List ℕ → ℕ
-wordOf n m = getD m (optionsFrom n + 8) 0 + getD m (optionsFrom n + 9) 0 * 256
+wordOf n m = wordFrom (optionsFrom n) m
 
 -- "hold one bit a page; a clear bit write-protects that page"
 unfoldable pub writeProtected : ℕ → ℕ → Bool

@@ -2,7 +2,7 @@
 ghost use mathlib.Core.Path.{_≡_};
 ghost use Rattle.board.specs.Layout.{flashBytes, ramFrom, optionsFrom, memoryBytes, defaults};
 ghost use Rattle.board.specs.Span.{placeOf, spans};
-ghost use Rattle.board.specs.Protection.{writeProtected, wordOf, readProtected};
+ghost use Rattle.board.specs.Protection.{lockedFrom, wordFrom, writeProtected, wordOf, readProtected};
 
 // A board is known by its number of flash pages; all else of the layout follows.
 pub struct Board {
@@ -83,23 +83,36 @@ impl Board {
         Place::Outside
     }
 
-    // Does the first option byte protect the whole memory from reading?
+    // Is reading and writing forbidden?
     pub fn read_protected(self, memory: &[u8]) -> bool
         ensures { λ r. ⌜ r ≡ readProtected (self .pages) (now (memory .entry)) ⌝ }
     {
-        let at = self.options_from();
-        buffer::byte_at(memory, at) != 0xAA
+        locked(memory, self.options_from() as u32)
     }
 
     // The option bytes that hold a bit a page, as one number.
     pub fn protection_word(self, memory: &[u8]) -> u32
         ensures { λ r. ⌜ r ≡ wordOf (self .pages) (now (memory .entry)) ⌝ }
     {
-        let at = self.options_from();
-        let low = buffer::byte_at(memory, at + 8);
-        let high = buffer::byte_at(memory, at + 9);
-        low as u32 + high as u32 * 256
+        word(memory, self.options_from() as u32)
     }
+}
+
+// Do the option bytes that begin at place `from` forbid reading and writing?
+pub fn locked(bytes: &[u8], from: u32) -> bool
+    ensures { λ r. ⌜ r ≡ lockedFrom from (now (bytes .entry)) ⌝ }
+{
+    buffer::byte_at(bytes, from as usize) != 0xAA
+}
+
+// The two option bytes that hold a bit a page, as one number; the option bytes begin at place `from`.
+pub fn word(bytes: &[u8], from: u32) -> u32
+    ensures { λ r. ⌜ r ≡ wordFrom from (now (bytes .entry)) ⌝ }
+{
+    let at = from as usize;
+    let low = buffer::byte_at(bytes, at + 8);
+    let high = buffer::byte_at(bytes, at + 9);
+    low as u32 + high as u32 * 256
 }
 
 // Do `count` addresses from `address` on lie in the region of `bytes` from `first` on?

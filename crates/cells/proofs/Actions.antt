@@ -13,11 +13,12 @@ use Rattle.laws.specs.Bytes.{put, filled}
 use Rattle.laws.proofs.Append.{put-over}
 use Rattle.laws.proofs.Split.{by-bool, by-lt, and-true}
 use Rattle.board.specs.Layout.{pageBytes, flashBytes, ramFrom, ramBytes, optionsFrom, memoryBytes, defaults}
-use Rattle.board.specs.Protection.{readProtected, wordOf, writeProtected}
+use Rattle.board.specs.Protection.{readProtected, wordOf, writeProtected, lockedFrom, wordFrom}
 use Rattle.memory.specs.Flash.{kept, each, blank, stored, erased, erasedFrom, erasedAll}
 use Rattle.memory.specs.Whole.{unprotected, ramCleared}
 use Rattle.memory.proofs.Places.{stored-length, stored-outside, stored-spares, stored-puts, each-all, each-if, each-not, Odd}
-use Rattle.cells.specs.Cells.{known, learnt, workBytes, surely, pageErased, pagesErased}
+use Rattle.verdict.specs.Checked.{workBytes}
+use Rattle.cells.specs.Cells.{known, learnt, surely, pageErased, pagesErased}
 use Rattle.cells.proofs.Learnt.{Outside}
 use Rattle.cells.proofs.Likeness.{cellOf, Alike, among, learnt-alike}
 
@@ -170,11 +171,11 @@ module _ (n : ℕ) (m₀ m w : List ℕ) (s : Alike n m₀ m w) where
       s .cells (optionsFrom n + k) hi ∙ rw (s .options (optionsFrom n + k) lo hi)
 
   pub word-same : wordOf n m ≡ wordOf n w
-  unfolding wordOf
+  unfolding wordOf wordFrom
   word-same = ap₂ (λ (a b : ℕ). a + b * 256) (option-same 8 (omega arith)) (option-same 9 (omega arith))
 
   pub protection-same : readProtected n m ≡ readProtected n w
-  unfolding readProtected
+  unfolding readProtected lockedFrom
   protection-same =
       let lo : optionsFrom n ≤ optionsFrom n = omega arith in
       let hi : optionsFrom n < memoryBytes n = omega arith in

@@ -18,7 +18,8 @@ use Rattle.request.specs.Request.{transferBytes}
 use Rattle.device.specs.State.{started}
 use Rattle.hex.specs.Hex.{allBytes}
 use Rattle.verdict.specs.World.{World, Fresh}
-use Rattle.cells.specs.Cells.{known, learnt, begun, workBytes}
+use Rattle.verdict.specs.Checked.{workBytes}
+use Rattle.cells.specs.Cells.{known, learnt, begun}
 use Rattle.cells.proofs.Learnt.{learnt-length, learnt-known, learnt-value, learnt-known-outside}
 use Rattle.cells.proofs.Likeness.{Alike}
 use Rattle.cells.proofs.Events.{Stands}

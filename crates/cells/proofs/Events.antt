@@ -48,7 +48,8 @@ use Rattle.loader.specs.Serve.{InOrder, runOf, statusBytes, statusOf, readAt, r
 use Rattle.loader.specs.Step.{admittedOf, stepOf}
 use Rattle.job.specs.Event.{Event, attach, request}
 use Rattle.verdict.specs.World.{World, worldOf, steppedOf, fails, asksStatus, isGetStatus}
-use Rattle.cells.specs.Cells.{known, blockFrom, workBytes, blockOf, Moved, falls, goes, readMoves, readsMoves, statusMoves, decisionMoves, requestMoves, moves}
+use Rattle.verdict.specs.Checked.{workBytes}
+use Rattle.cells.specs.Cells.{known, blockFrom, blockOf, Moved, falls, goes, readMoves, readsMoves, statusMoves, decisionMoves, requestMoves, moves}
 use Rattle.cells.proofs.Likeness.{Alike}
 use Rattle.cells.proofs.Learnt.{put-outside}
 use Rattle.cells.proofs.Actions.{protection-same}

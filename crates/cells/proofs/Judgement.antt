@@ -20,7 +20,8 @@ use Rattle.verdict.specs.declared.Verdict.{Verdict}
 use Rattle.verdict.specs.declared.Verdict.the-variants as verdict
 use Rattle.verdict.specs.World.{World, Fresh, after, failsAt}
 use Rattle.verdict.specs.Verdict.{isLeft, endFault, pagesEnd, wantedAt, wrongAt, OnSome, OnNone, Least, RunsClean, EndsWell, FlashRight, Judged}
-use Rattle.cells.specs.Cells.{known, workBytes, begun, Over, fell, ended, overOf, suspect, lowestFrom, flashVerdict, endVerdict, overVerdict, verdictOf}
+use Rattle.verdict.specs.Checked.{workBytes}
+use Rattle.cells.specs.Cells.{known, begun, Over, fell, ended, overOf, suspect, lowestFrom, flashVerdict, endVerdict, overVerdict, verdictOf}
 use Rattle.cells.proofs.Likeness.{Alike, cellOf}
 use Rattle.cells.proofs.Events.{Stands}
 use Rattle.cells.proofs.Runs.{AllFit, run-ends, run-before, run-falls, fell-above}

@@ -35,7 +35,8 @@ use Rattle.action.specs.Action.{storeAt, pointOf, eraseAt, eraseOf, actionIn, a
 use Rattle.loader.specs.Perform.{Performed, performedOf, countOf}
 use Rattle.loader.specs.Serve.{Run, run, runOf}
 use Rattle.loader.proofs.Bounds.{Fits, action-fits}
-use Rattle.cells.specs.Cells.{Moved, falls, goes, blockFrom, workBytes, blockOf, workedOf, reports, runs, statusMoves}
+use Rattle.verdict.specs.Checked.{workBytes}
+use Rattle.cells.specs.Cells.{Moved, falls, goes, blockFrom, blockOf, workedOf, reports, runs, statusMoves}
 use Rattle.cells.proofs.Likeness.{Alike}
 use Rattle.cells.proofs.Actions.{protection-same}
 use Rattle.cells.proofs.Performs.{Performs, performs-well, performs-ill}

@@ -18,7 +18,8 @@ use Rattle.action.specs.declared.Action.the-variants.{Rest, Fail, Point, Erase,
 use Rattle.memory.specs.Flash.{blank, stored, erased, erasedAll}
 use Rattle.loader.specs.Perform.{performedOf, writtenOf, endOf, countOf}
 use Rattle.loader.proofs.Bounds.{Fits}
-use Rattle.cells.specs.Cells.{known, learnt, blockFrom, workBytes, surely, blockOf, writes, workedOf}
+use Rattle.verdict.specs.Checked.{workBytes}
+use Rattle.cells.specs.Cells.{known, learnt, blockFrom, surely, blockOf, writes, workedOf}
 use Rattle.cells.proofs.Likeness.{Alike, learnt-alike}
 use Rattle.cells.proofs.Actions.{page-alike, all-alike, ram-alike, whole-alike, stored-alike, surely-known, surely-blank, surely-not, word-same}
 

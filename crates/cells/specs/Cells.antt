@@ -10,7 +10,6 @@ use Rattle.laws.specs.Bytes.{put, filled}
 use Rattle.board.specs.Layout.{pageBytes, flashFirst, flashBytes, ramFrom, ramBytes, optionsFrom, optionBytes, memoryBytes}
 use Rattle.board.specs.Protection.{readProtected, wordOf, writeProtected}
 use Rattle.request.specs.declared.Setup.{Setup}
-use Rattle.request.specs.Request.{transferBytes}
 use Rattle.request.specs.Setup.{setupOf}
 use Rattle.device.specs.declared.Mode.the-variants.{UploadIdle}
 use Rattle.device.specs.declared.Device.{Device}
@@ -34,12 +33,9 @@ use Rattle.verdict.specs.declared.Verdict.{Verdict}
 use Rattle.verdict.specs.declared.Verdict.the-variants as verdict
 use Rattle.verdict.specs.Verdict.{isLeft, pagesEnd}
 
--- the work area: values, then marks, then the block
+-- the work area holds values, then marks, then the block
 abbrev pub blockFrom : ℕ → ℕ
 blockFrom n = memoryBytes n + memoryBytes n
-
-abbrev pub workBytes : ℕ → ℕ
-workBytes n = blockFrom n + transferBytes
 
 -- byte i is known
 abbrev pub known : ℕ → List ℕ → ℕ → Bool

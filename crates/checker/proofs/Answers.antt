@@ -28,7 +28,8 @@ use Rattle.memory.specs.Flash.{each, blank, stored}
 use Rattle.memory.specs.Whole.{unprotected}
 use Rattle.hex.specs.Hex.{bytesOf}
 use Rattle.hex.proofs.Fields.{bytes-length}
-use Rattle.cells.specs.Cells.{blockFrom, workBytes, blockOf, marked, learnt, surely, Worked, worked, workedOf, writes, Moved, reports, runs, statusMoves, readMoves, readsMoves, decisionMoves, requestMoves}
+use Rattle.verdict.specs.Checked.{workBytes}
+use Rattle.cells.specs.Cells.{blockFrom, blockOf, marked, learnt, surely, Worked, worked, workedOf, writes, Moved, reports, runs, statusMoves, readMoves, readsMoves, decisionMoves, requestMoves}
 use Rattle.checker.proofs.Loops.{learnt-is}
 
 -- the erased test on every board, by its two halves

@@ -1,11 +1,44 @@
 -- How what the checker's inner functions answer is read: a device of the proof, which no public promise names. Assumes nothing.
+use mathlib.Core.Path.{_≡_}
+use mathlib.Core.Bool.{true}
 use mathlib.Core.List.{List}
-use Prim.Native.Nat.{ℕ}
+use Prim.Native.Nat.{ℕ, suc, _≤_, _<_}
+use lib.ListN.{length, drop}
+use Rattle.device.specs.declared.Device.{Device}
+use Rattle.device.specs.WellFormed.{wellFormed}
+use Rattle.job.specs.Event.{proper, textOf}
+use Rattle.job.specs.Text.{eventsOf}
+use Rattle.cells.specs.Cells.{Moved, falls, goes, Over, fell, ended, overOf}
 use Rattle.checker.specs.declared.Step.{Step}
 use Rattle.checker.specs.declared.Step.the-variants as step
-use Rattle.cells.specs.Cells.{Moved, falls, goes}
+use Rattle.checker.specs.declared.Onward.{Onward}
+use Rattle.checker.specs.declared.Onward.the-variants as onward
+use Rattle.checker.specs.declared.Outcome.{Outcome}
+use Rattle.checker.specs.declared.Outcome.the-variants as outcome
 
 -- an event's outcome, with the work area that it left
 abbrev pub movedAs : Step → List ℕ → Moved
 movedAs step.Falls w = falls
 movedAs (step.Goes d) w = goes d w
+
+-- from a place on, the text is that of its events
+pub record Ahead (t : List ℕ) (at : ℕ) : Type 0 where
+  pub text : drop at t ≡ textOf (eventsOf (drop at t))
+  pub right : proper (eventsOf (drop at t)) ≡ true
+
+-- one event further, with the device d′ and the work area w′, the events behind it come to the same
+pub record Further (n : ℕ) (t : List ℕ) (at : ℕ) (d : Device) (w : List ℕ) (d′ : Device) (behind : ℕ) (w′ : List ℕ) : Type 0 where
+  pub over : (k : ℕ) → overOf n (eventsOf (drop at t)) d w k ≡ overOf n (eventsOf (drop behind t)) d′ w′ (suc k)
+  pub ahead : Ahead t behind
+  pub more : at < behind
+  pub within : behind ≤ length t
+  pub form : wellFormed n d′ ≡ true
+
+abbrev pub Advanced : ℕ → List ℕ → ℕ → Device → List ℕ → Onward → List ℕ → Type 0
+Advanced n t at d w onward.Falls w′ = (k : ℕ) → overOf n (eventsOf (drop at t)) d w k ≡ fell (suc k)
+Advanced n t at d w (onward.Goes d′ behind) w′ = Further n t at d w d′ behind w′
+
+-- a run's outcome, with the work area that it left
+abbrev pub overAs : Outcome → List ℕ → Over
+overAs (outcome.Fell k) w = fell k
+overAs (outcome.Ended d) w = ended d w

@@ -7,9 +7,10 @@ ghost use mathlib.Core.List.{List};
 ghost use Prim.Native.Nat.{ℕ, _+_, _-_, _*_, _/_, _≤_, _<_};
 ghost use lib.ListN.{length, drop, getD, replicate};
 ghost use Rattle.laws.specs.Bytes.{put, filled};
-ghost use Rattle.board.specs.Layout.{pageBytes, flashBytes, ramFrom, ramBytes, optionBytes, memoryBytes};
+ghost use Rattle.board.specs.Layout.{loggerPages, pageBytes, flashBytes, ramFrom, ramBytes, optionBytes, memoryBytes};
 ghost use Rattle.request.specs.Request.{transferBytes};
 ghost use Rattle.request.specs.Setup.{dataLength};
+ghost use Rattle.device.specs.State.{started};
 ghost use Rattle.device.specs.WellFormed.{wellFormed};
 ghost use Rattle.loader.specs.Perform.{endOf, countOf};
 ghost use Rattle.memory.specs.Flash.{each, stored};
@@ -17,9 +18,12 @@ ghost use Rattle.memory.specs.Whole.{unprotected};
 ghost use Rattle.decision.specs.Decide.{commandOf};
 ghost use Rattle.hex.specs.Hex.{bytesOf};
 ghost use Rattle.job.specs.Event.{same};
+ghost use Rattle.job.specs.Text.{eventsOf};
+ghost use Rattle.job.specs.Calls.{measureOf};
 ghost use Rattle.verdict.specs.Verdict.{isLeft};
-ghost use Rattle.checker.specs.Walk.{movedAs};
-ghost use Rattle.cells.specs.Cells.{blockFrom, workBytes, marked, learnt, blockOf, pageErased, pagesErased, worked, workedOf, writes, reports, statusMoves, readsMoves, requestMoves, begun, suspect, lowestFrom, endVerdict};
+ghost use Rattle.checker.specs.Walk.{movedAs, Ahead, Advanced, overAs};
+ghost use Rattle.verdict.specs.Checked.{workBytes, readable, checkable, Checked};
+ghost use Rattle.cells.specs.Cells.{blockFrom, marked, learnt, blockOf, pageErased, pagesErased, worked, workedOf, writes, reports, statusMoves, readsMoves, requestMoves, begun, overOf, suspect, lowestFrom, endVerdict, verdictOf};
 use action::Access;
 use action::Action;
 use board::Board;
@@ -28,6 +32,10 @@ use decision::Decision;
 use device::Device;
 use device::Mode;
 use device::Ran;
+use job::Done;
+use job::Item;
+use loader::Admission;
+use refusal::Refusal;
 use request::Setup;
 use verdict::Verdict;
 
@@ -406,5 +414,117 @@ fn has_left(mode: Mode) -> bool
         Mode::Error => false,
         Mode::Left => true,
         Mode::Rebooting => false,
+    }
+}
+
+// How far the next event of a job brings all boards.
+enum Onward {
+    Falls,
+    Goes { next: Device, behind: usize },
+}
+
+// The event whose line begins at place `at`, on every board.
+fn advance(board: Board, device: Device, job: &[u8], at: usize, work: &mut [u8]) -> Onward
+    requires { ⌜ (length (now work) ≡ workBytes (board .pages)) × (wellFormed (board .pages) device ≡ true) × Ahead (now job) at × (at < length (now job)) ⌝ }
+    ensures { λ r. ⌜ Advanced (board .pages) (now (job .entry)) at device (now (work .entry)) r (now (work .exit)) ⌝ }
+{
+    let item = job::item_at(job, at);
+    match item {
+        Item::End => Onward::Falls,
+        Item::Bad => Onward::Falls,
+        Item::Attach { next } => Onward::Goes {
+            next: device.attach(),
+            behind: next,
+        },
+        Item::Request { setup, data, next } => {
+            let end = data + setup.data_length() * 2;
+            let step = request(board, device, setup, &job[data..end], work);
+            match step {
+                Step::Falls => Onward::Falls,
+                Step::Goes(after) => Onward::Goes {
+                    next: after,
+                    behind: next,
+                },
+            }
+        }
+    }
+}
+
+// How a job comes out before its end is looked at: the number of the first event that fails, or the state of all boards.
+enum Outcome {
+    Fell(usize),
+    Ended(Device),
+}
+
+// The events of a job in turn, up to the first that fails.
+fn run(board: Board, job: &[u8], work: &mut [u8]) -> Outcome
+    requires { ⌜ (length (now work) ≡ workBytes (board .pages)) × (1 ≤ board .pages) × Ahead (now job) 0 ⌝ }
+    ensures { λ r. ⌜ overAs r (now (work .exit)) ≡ overOf (board .pages) (eventsOf (now (job .entry))) started (now (work .entry)) 0 ⌝ }
+{
+    let mut device = Device::START;
+    let mut at = 0;
+    let mut events = 0;
+    while at < job.len() {
+        let onward = advance(board, device, job, at, work);
+        events += 1;
+        match onward {
+            Onward::Falls => {
+                return Outcome::Fell(events);
+            }
+            Onward::Goes { next, behind } => {
+                device = next;
+                at = behind;
+            }
+        }
+    }
+    Outcome::Ended(device)
+}
+
+// The verdict of a job that is well formed.
+fn judge(board: Board, job: &[u8], image: &[u8], card: &[u8], work: &mut [u8]) -> Verdict
+    requires { ⌜ (length (now work) ≡ workBytes (board .pages)) × (1 ≤ board .pages) × Ahead (now job) 0 × (length (now image) ≤ flashBytes (board .pages)) × (length (now card) ≡ optionBytes) ⌝ }
+    ensures { λ r. ⌜ r ≡ verdictOf (board .pages) (eventsOf (now (job .entry))) (now (image .entry)) (now (card .entry)) (now (work .entry)) ⌝ }
+{
+    begin(board, card, work);
+    let outcome = run(board, job, work);
+    match outcome {
+        Outcome::Fell(k) => Verdict::Event(k),
+        Outcome::Ended(device) => finish(board, device, image, card, work),
+    }
+}
+
+// The refusals of a check, in their order.
+fn admit(board: Board, job: &[u8], image: usize, card: usize, work: usize) -> Admission
+    ensures { λ r. ⌜ r ≡ checkable (board .pages) (now (job .entry)) image card work ⌝ }
+{
+    if work != block_from(board) + Setup::TRANSFER as usize {
+        return Admission::Refused(Refusal::Work);
+    }
+    let supplied = verdict::supplied(board, image, card);
+    match supplied {
+        Admission::Refused(why) => Admission::Refused(why),
+        Admission::Admitted => readable(job),
+    }
+}
+
+fn readable(job: &[u8]) -> Admission
+    ensures { λ r. ⌜ r ≡ readable (measureOf (now (job .entry))) ⌝ }
+{
+    let measured = job::measure(job);
+    match measured {
+        Done::Bytes(_) => Admission::Admitted,
+        Done::Refused(why) => Admission::Refused(why),
+    }
+}
+
+// Checks a job: does every board with this card, whatever its flash and RAM hold, end up with the image?
+pub fn check(job: &[u8], image: &[u8], card: &[u8], work: &mut [u8]) -> Verdict
+    ensures { λ r. ⌜ Checked loggerPages (now (job .entry)) (now (image .entry)) (now (card .entry)) (now (work .entry)) r (now (work .exit)) ⌝ }
+{
+    let board = Board::LOGGER;
+    let admission = admit(board, job, image.len(), card.len(), work.len());
+    match admission {
+        Admission::Refused(why) => Verdict::Refused(why),
+        Admission::Admitted => judge(board, job, image, card, work),
     }
 }

@@ -7,45 +7,15 @@ use Rattle.board.proofs.Board.protection_word.Tie as tie
 options-from-requires : tie.Need-options-from-requires
 options-from-requires c κs = search needs
 
-add-byte-at : tie.Need-add-byte-at
-add-byte-at c = search needs
+cast-word : tie.Need-cast-word
+cast-word c = search needs
 
-byte-at-requires : tie.Need-byte-at-requires
-byte-at-requires c κs = search needs
-
-add-byte-at-2 : tie.Need-add-byte-at-2
-add-byte-at-2 c = search needs
-
-byte-at-requires-2 : tie.Need-byte-at-requires-2
-byte-at-requires-2 c κs = search needs
-
-cast-result : tie.Need-cast-result
-cast-result c = search needs
-
-cast-result-2 : tie.Need-cast-result-2
-cast-result-2 c = search needs
-
-mul-result : tie.Need-mul-result
-mul-result c = search needs
-
-add-result : tie.Need-add-result
-add-result c = search needs
+word-requires : tie.Need-word-requires
+word-requires c κs = search needs
 
 returns : tie.Need-returns
 unfolding wordOf
-returns c = simp (c .byte-at2 .ensures, c .before .byte-at .ensures, c .before .before .options-from .ensures)
+returns c = simp (c .word .ensures, c .before .options-from .ensures)
 
 pub protection-word-spec : {M : Type 1} → statement M
-protection-word-spec =
-    tie.close
-    (tie.spec
-    options-from-requires
-    add-byte-at
-    byte-at-requires
-    add-byte-at-2
-    byte-at-requires-2
-    cast-result
-    cast-result-2
-    mul-result
-    add-result
-    returns)
+protection-word-spec = tie.close (tie.spec options-from-requires cast-word word-requires returns)

@@ -7,12 +7,16 @@ use Rattle.board.proofs.Board.read_protected.Tie as tie
 options-from-requires : tie.Need-options-from-requires
 options-from-requires c κs = search needs
 
-byte-at-requires : tie.Need-byte-at-requires
-byte-at-requires c κs = search needs
+cast-locked : tie.Need-cast-locked
+cast-locked c = search needs
+
+locked-requires : tie.Need-locked-requires
+locked-requires c κs = search needs
 
 returns : tie.Need-returns
 unfolding readProtected
-returns c = simp (c .byte-at .ensures, c .before .options-from .ensures)
+returns c = simp (c .locked .ensures, c .before .options-from .ensures)
 
 pub read-protected-spec : {M : Type 1} → statement M
-read-protected-spec = tie.close (tie.spec options-from-requires byte-at-requires returns)
+read-protected-spec =
+    tie.close (tie.spec options-from-requires cast-locked locked-requires returns)

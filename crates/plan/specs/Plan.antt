@@ -1,0 +1,98 @@
+-- The plan of an image. Document 01, "The checker and the plan", last paragraph, and the rows of "Refusal numbers" that name the plan. Assumes nothing.
+use mathlib.Core.Bool.{Bool, false, cond, _||_}
+use mathlib.Core.List.{List, [], _∷_, _++_}
+use Prim.Native.Nat.{ℕ, zero, suc, _+_, _-_, _*_, _/_, _%_}
+use lib.Dec.{eqb}
+use lib.ListN.{length, take, drop}
+use Rattle.board.specs.Layout.{pageBytes, flashFirst}
+use Rattle.board.specs.Protection.{lockedFrom, wordFrom, writeProtected}
+use Rattle.refusal.specs.declared.Refusal.the-variants.{Protected}
+use Rattle.loader.specs.declared.Admission.{Admission}
+use Rattle.loader.specs.declared.Admission.the-variants as admission
+use Rattle.job.specs.declared.Done.the-variants.{Refused}
+use Rattle.job.specs.Event.{Event, request, textOf}
+use Rattle.job.specs.Calls.{Outcome, left, delivered}
+use Rattle.verdict.specs.Checked.{supplied, then}
+
+-- a number in two bytes and in four, low byte first
+abbrev pub two : ℕ → List ℕ
+two x = x % 256 ∷ x / 256 % 256 ∷ []
+
+abbrev pub four : ℕ → List ℕ
+four x = x % 256 ∷ x / 256 % 256 ∷ x / 65536 % 256 ∷ x / 16777216 % 256 ∷ []
+
+-- DNLOAD of the data xs with this wValue
+abbrev pub download : ℕ → List ℕ → Event
+download value xs = request (0x21 ∷ 1 ∷ (two value ++ (0 ∷ 0 ∷ (two (length xs) ++ xs))))
+
+abbrev pub getStatus : Event
+getStatus = request (0xA1 ∷ 3 ∷ 0 ∷ 0 ∷ 0 ∷ 0 ∷ 6 ∷ 0 ∷ [])
+
+-- "each followed by two GETSTATUS"
+abbrev pub polled : Event → List Event → List Event
+polled e es = e ∷ getStatus ∷ getStatus ∷ es
+
+abbrev pub pageAddress : ℕ → ℕ
+pageAddress page = flashFirst + page * pageBytes
+
+-- "erase page" and "set pointer"
+abbrev pub erasePage : ℕ → Event
+erasePage address = download 0 (0x41 ∷ four address)
+
+abbrev pub setPointer : ℕ → Event
+setPointer address = download 0 (0x21 ∷ four address)
+
+-- "a final single byte padded by one 0xFF"
+abbrev pub padded : List ℕ → List ℕ
+padded xs = cond (eqb (length xs) 1) (xs ++ (0xFF ∷ [])) xs
+
+-- the bytes of the image in one page
+abbrev pub pageOf : List ℕ → ℕ → List ℕ
+pageOf image page = take pageBytes (drop (page * pageBytes) image)
+
+-- "Then set pointer 0x08000000, two GETSTATUS, DNLOAD of length 0, one GETSTATUS"
+abbrev pub leaving : List Event
+leaving = polled (setPointer flashFirst) (download 0 [] ∷ getStatus ∷ [])
+
+-- "for each image page in turn, erase page; set pointer to it; write its bytes with wValue 2": `count` pages from `page` on
+unfoldable pub pagesFrom : List ℕ → ℕ → ℕ → List Event
+pagesFrom image zero page = leaving
+pagesFrom image (suc count) page =
+    polled (erasePage (pageAddress page))
+    (polled (setPointer (pageAddress page))
+    (polled (download 2 (padded (pageOf image page)))
+    (pagesFrom image count (suc page))))
+
+-- how many pages the image takes
+abbrev pub pagesOf : List ℕ → ℕ
+pagesOf image = (length image + (pageBytes - 1)) / pageBytes
+
+unfoldable pub planEvents : List ℕ → List Event
+planEvents image = pagesFrom image (pagesOf image) 0
+
+-- the plan
+unfoldable pub planOf : List ℕ → List ℕ
+planOf image = textOf (planEvents image)
+
+-- one of `count` pages from `page` on is write-protected
+unfoldable pub anyProtected : ℕ → ℕ → ℕ → Bool
+anyProtected word zero page = false
+anyProtected word (suc count) page = writeProtected word page || anyProtected word count (suc page)
+
+-- row 12: "card read-protected, or an image page write-protected"
+unfoldable pub barred : List ℕ → List ℕ → Bool
+barred image card = lockedFrom 0 card || anyProtected (wordFrom 0 card) (pagesOf image) 0
+
+-- rows 7, 8 and 12, "checked in this order"
+unfoldable pub planable : ℕ → List ℕ → List ℕ → Admission
+planable n image card =
+    then (supplied n (length image) (length card)) (cond (barred image card) (admission.Refused Protected) admission.Admitted)
+
+-- "A refusal leaves state and every buffer unchanged"; "11 comes last"
+abbrev pub ruled : Admission → List ℕ → List ℕ → Outcome
+ruled admission.Admitted text out = delivered text out
+ruled (admission.Refused r) text out = left (Refused r) out
+
+-- the plan writer, for a board of n pages
+unfoldable pub planned : ℕ → List ℕ → List ℕ → List ℕ → Outcome
+planned n image card out = ruled (planable n image card) (planOf image) out

@@ -1,0 +1,1 @@
+// The plan writer: the job that puts an image on a board.
