@@ -4,6 +4,7 @@ pub mod Actions
 pub mod Performs
 pub mod Moves
 pub mod Events
+pub mod InForm
 pub mod Runs
 pub mod Boards
 pub mod Judgement

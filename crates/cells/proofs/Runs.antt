@@ -10,12 +10,11 @@ use lib.ListN.{getD}
 use Rattle.board.specs.Layout.{optionsFrom}
 use Rattle.device.specs.declared.Device.{Device}
 use Rattle.device.proofs.Form.{Form}
-use Rattle.loader.specs.declared.Event.the-variants as event
-use Rattle.loader.proofs.Form.{step-form}
 use Rattle.job.specs.Event.{Event, attach, request}
 use Rattle.verdict.specs.World.{World, worldOf, steppedOf, after, fails, failsAt}
 use Rattle.cells.specs.Cells.{Moved, falls, goes, Over, fell, ended, onward, moves, overOf}
 use Rattle.cells.proofs.Moves.{Held, falls-not}
+use Rattle.cells.proofs.InForm.{moves-form}
 use Rattle.cells.proofs.Events.{Stands, Fitting, event-on, event-down}
 
 -- every event of the job has its data
@@ -67,14 +66,6 @@ module _ (n : ℕ) (some : 1 ≤ n) (m₀ : List ℕ) (x : World) (d : Device) (
   pub one-down : (e : Event) → Fitting e → ((i : ℕ) → i < optionsFrom n → getD m₀ i 0 ≡ 0) → moves n d w e ≡ falls → fails e (steppedOf n x e) ≡ true
   one-down e f z h = event-down n m₀ (x .device) (x .memory) (x .block) (x .reply) w own-form own-stands e f z (ap (λ (y : Device). moves n y w e) (st .device) ∙ h)
 
-  stepped-form : (e : Event) → Form n (steppedOf n x e .device)
-  unfolding steppedOf
-  stepped-form attach = step-form n (x .device) event.Attach [] (x .memory) (x .block) (x .reply) some own-form
-  stepped-form (request q) = step-form n (x .device) event.Request q (x .memory) (x .block) (x .reply) some own-form
-
-  pub one-form : (e : Event) → Fitting e → (d′ : Device) (w′ : List ℕ) → moves n d w e ≡ goes d′ w′ → Form n d′
-  one-form e f d′ w′ h = rw (one-on e f d′ w′ h .1 .device) at (stepped-form e)
-
 module _ (n : ℕ) (some : 1 ≤ n) (m₀ : List ℕ) where
   -- where the work area reaches the end, so does every board, and cleanly
   pub run-ends : (es : List Event) (x : World) (d : Device) (w : List ℕ) (k : ℕ) (d′ : Device) (w′ : List ℕ) → AllFit es → Form n d → Stands n m₀ x d w → overOf n es d w k ≡ ended d′ w′ → ((j : ℕ) → failsAt n es j x ≡ false) × Stands n m₀ (after n es x) d′ w′
@@ -84,7 +75,7 @@ module _ (n : ℕ) (some : 1 ≤ n) (m₀ : List ℕ) where
       by-moved (moves n d w e) (λ v. absurd (fell-not (suc k) d′ w′ (rw v at h)))
       (λ d₁ w₁ v.
       let r = one-on n some m₀ x d w form st e (fit .0) d₁ w₁ v in
-      let f = one-form n some m₀ x d w form st e (fit .0) d₁ w₁ v in
+      let f = moves-form n d w e d₁ w₁ some form v in
       let rest = run-ends es (worldOf (steppedOf n x e)) d₁ w₁ (suc k) d′ w′ (fit .1) f (r .1) (rw v at h) in
       (first (r .0) (rest .0), rest .1))
     where
@@ -101,7 +92,7 @@ module _ (n : ℕ) (some : 1 ≤ n) (m₀ : List ℕ) where
       (λ v. let z : suc k ≡ suc (k + j) = fell-number (suc k) (suc (k + j)) (rw v at h) in absurd (omega arith))
       (λ d₁ w₁ v.
       let r = one-on n some m₀ x d w form st e (fit .0) d₁ w₁ v in
-      let f = one-form n some m₀ x d w form st e (fit .0) d₁ w₁ v in
+      let f = moves-form n d w e d₁ w₁ some form v in
       by-place i
       (λ z. rw z (r .0))
       (λ i′ z.
@@ -121,7 +112,7 @@ module _ (n : ℕ) (some : 1 ≤ n) (m₀ : List ℕ) where
       rw j₀ (one-down n some m₀ x d w form st e (fit .0) z v))
       (λ d₁ w₁ v.
       let r = one-on n some m₀ x d w form st e (fit .0) d₁ w₁ v in
-      let f = one-form n some m₀ x d w form st e (fit .0) d₁ w₁ v in
+      let f = moves-form n d w e d₁ w₁ some form v in
       by-place j
       (λ y. let late : suc k < suc (k + j) = fell-above n es d₁ w₁ (suc k) (suc (k + j)) (rw v at h) in absurd (omega arith))
       (λ j′ y.

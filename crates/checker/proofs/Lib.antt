@@ -1,3 +1,5 @@
 pub mod Loops
 pub mod Answers
 pub mod Walking
+pub mod Advancing
+pub mod Judging

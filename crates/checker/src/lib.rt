@@ -425,7 +425,7 @@ enum Onward {
 
 // The event whose line begins at place `at`, on every board.
 fn advance(board: Board, device: Device, job: &[u8], at: usize, work: &mut [u8]) -> Onward
-    requires { ⌜ (length (now work) ≡ workBytes (board .pages)) × (wellFormed (board .pages) device ≡ true) × Ahead (now job) at × (at < length (now job)) ⌝ }
+    requires { ⌜ (length (now work) ≡ workBytes (board .pages)) × (1 ≤ board .pages) × (wellFormed (board .pages) device ≡ true) × Ahead (now job) at × (at < length (now job)) ⌝ }
     ensures { λ r. ⌜ Advanced (board .pages) (now (job .entry)) at device (now (work .entry)) r (now (work .exit)) ⌝ }
 {
     let item = job::item_at(job, at);

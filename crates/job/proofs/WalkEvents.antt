@@ -17,6 +17,7 @@ use Rattle.job.specs.Text.{firstLine, firstBad, eventsOf}
 use Rattle.job.specs.Calls.{itemFor, itemOf}
 use Rattle.job.proofs.Spelling.{spelled, spelled-facts}
 use Rattle.job.proofs.Formed.{fits-long, fits-data, bytes-drop}
+use Rattle.job.proofs.SpellSize.{line-length-of}
 use Rattle.job.proofs.EventText.{line-event, line-formed, line-first, line-some, proper-parts, good-text}
 
 -- where the text goes on with the lines of e and es
@@ -42,6 +43,14 @@ module _ (t : List ℕ) (at : ℕ) (e : Event) (es : List Event) (is : drop at t
       let p = proper-parts e es ok in
       rw (lt-leb (length t) at more, first, line-formed e (p .0) (p .1), line-event e (p .0) (p .1))
 
+  -- its line ends within the text
+  within : at + length (lineOf e) ≤ length t
+  within =
+      let l : length (drop at t) ≡ length (lineOf e) + length (textOf es) = ap length goes-on ∙ length-append (lineOf e) (textOf es) in
+      let d : length (drop at t) ≡ length t - at = length-drop at t in
+      let m = more in
+      omega arith
+
   -- and behind its line the text is that of es
   pub next-here : drop (at + length (lineOf e)) t ≡ textOf es
   next-here = sym (drop-drop (length (lineOf e)) at t) ∙ ap (drop (length (lineOf e))) goes-on ∙ drop-append-seam (lineOf e) (textOf es)
@@ -58,6 +67,17 @@ data-here t at q es is ok =
     let j : spelled (take 8 q) (drop 8 q) [] ++ textOf es ≡ spelled (take 8 q) (drop 8 q) (textOf es) = simp append-assoc in
     let s : drop (at + 19) t ≡ drop 19 (spelled (take 8 q) (drop 8 q) (textOf es)) = sym (drop-drop 19 at t) ∙ ap (drop 19) (is ∙ j) in
     ap₂ (λ (k : ℕ) (x : List ℕ). bytesOf (take k x)) n s ∙ ap bytesOf (f .body) ∙ bytes-hex (drop 8 q) (bytes-drop 8 q (p .1))
+
+-- and they end within the text
+data-ends : (t : List ℕ) (at : ℕ) (q : List ℕ) (es : List Event) → drop at t ≡ textOf (request q ∷ es) → proper (request q ∷ es) ≡ true → at + 19 + dataLength (setupOf q) * 2 ≤ length t
+unfolding fits
+data-ends t at q es is ok =
+    let p = proper-parts (request q) es ok in
+    let h : 8 ≤ length q = fits-long q (p .0) in
+    let d = fits-data q (p .0) in
+    let l = line-length-of q h in
+    let w = within t at (request q) es is ok in
+    omega arith
 
 -- where the text is at its end
 pub item-last : (t : List ℕ) (at : ℕ) → drop at t ≡ textOf [] → itemOf t at ≡ item.End
@@ -84,29 +104,48 @@ bad-never t at [] is ok i = let h = item-last t at is in let z : _≡_ {A = ℕ}
 bad-never t at (attach ∷ es) is ok i = let h = item-here t at attach es is ok in let z : _≡_ {A = ℕ} 0 1 = cc in omega arith
 bad-never t at (request q ∷ es) is ok i = let h = item-here t at (request q) es is ok in let z : _≡_ {A = ℕ} 0 1 = cc in omega arith
 
-pub record Attached (t : List ℕ) (es : List Event) (next : ℕ) : Type 0 where
+-- behind an event's line the text goes on with the rest of its events
+pub record Beyond (t : List ℕ) (at : ℕ) (rest : List Event) (next : ℕ) : Type 0 where
+  pub text : drop next t ≡ textOf rest
+  pub right : proper rest ≡ true
+  pub more : at < next
+  pub within : next ≤ length t
+
+beyond-here : (t : List ℕ) (at : ℕ) (e : Event) (es : List Event) (next : ℕ) → drop at t ≡ textOf (e ∷ es) → proper (e ∷ es) ≡ true → at + length (lineOf e) ≡ next → Beyond t at es next
+beyond-here t at e es next is ok n =
+    let s = line-some e in
+    let l = within t at e es is ok in
+    record {
+      text = ap (λ (k : ℕ). drop k t) (sym n) ∙ next-here t at e es is ok;
+      right = proper-parts e es ok .2;
+      more = let h : at < next = omega arith in h;
+      within = let h : next ≤ length t = omega arith in h;
+    }
+
+pub record Attached (t : List ℕ) (at : ℕ) (es : List Event) (next : ℕ) : Type 0 where
   pub rest : List Event
   pub events : es ≡ attach ∷ rest
-  pub onward : drop next t ≡ textOf rest
+  pub onward : Beyond t at rest next
 
-pub attach-tells : (t : List ℕ) (at next : ℕ) (es : List Event) → drop at t ≡ textOf es → proper es ≡ true → itemOf t at ≡ item.Attach next → Attached t es next
+pub attach-tells : (t : List ℕ) (at next : ℕ) (es : List Event) → drop at t ≡ textOf es → proper es ≡ true → itemOf t at ≡ item.Attach next → Attached t at es next
 unfolding itemFor
 attach-tells t at next [] is ok i = let h = item-last t at is in let z : _≡_ {A = ℕ} 0 1 = cc in absurd (omega arith)
 attach-tells t at next (attach ∷ es) is ok i =
     let h = item-here t at attach es is ok in
     let n : at + length (lineOf attach) ≡ next = cc in
-    record { rest = es; events = refl; onward = ap (λ (k : ℕ). drop k t) (sym n) ∙ next-here t at attach es is ok }
+    record { rest = es; events = refl; onward = beyond-here t at attach es next is ok n }
 attach-tells t at next (request q ∷ es) is ok i = let h = item-here t at (request q) es is ok in let z : _≡_ {A = ℕ} 0 1 = cc in absurd (omega arith)
 
-pub record Requested (t : List ℕ) (es : List Event) (s : Setup) (data-at next : ℕ) : Type 0 where
+pub record Requested (t : List ℕ) (at : ℕ) (es : List Event) (s : Setup) (data-at next : ℕ) : Type 0 where
   pub bytes : List ℕ
   pub rest : List Event
   pub events : es ≡ request bytes ∷ rest
   pub asked : s ≡ setupOf bytes
   pub data-bytes : bytesOf (take (dataLength s * 2) (drop data-at t)) ≡ drop 8 bytes
-  pub onward : drop next t ≡ textOf rest
+  pub data-within : data-at + dataLength s * 2 ≤ length t
+  pub onward : Beyond t at rest next
 
-pub request-tells : (t : List ℕ) (at : ℕ) (s : Setup) (data-at next : ℕ) (es : List Event) → drop at t ≡ textOf es → proper es ≡ true → itemOf t at ≡ item.Request s data-at next → Requested t es s data-at next
+pub request-tells : (t : List ℕ) (at : ℕ) (s : Setup) (data-at next : ℕ) (es : List Event) → drop at t ≡ textOf es → proper es ≡ true → itemOf t at ≡ item.Request s data-at next → Requested t at es s data-at next
 unfolding itemFor
 request-tells t at s d next [] is ok i = let h = item-last t at is in let z : _≡_ {A = ℕ} 0 1 = cc in absurd (omega arith)
 request-tells t at s d next (attach ∷ es) is ok i = let h = item-here t at attach es is ok in let z : _≡_ {A = ℕ} 0 1 = cc in absurd (omega arith)
@@ -121,5 +160,6 @@ request-tells t at s d next (request q ∷ es) is ok i =
       events = refl;
       asked = a;
       data-bytes = ap₂ (λ (k : ℕ) (j : ℕ). bytesOf (take (k * 2) (drop j t))) (ap dataLength a) (sym m) ∙ data-here t at q es is ok;
-      onward = ap (λ (k : ℕ). drop k t) (sym n) ∙ next-here t at (request q) es is ok;
+      data-within = let k = data-ends t at q es is ok in let j : dataLength s ≡ dataLength (setupOf q) = ap dataLength a in let h : d + dataLength s * 2 ≤ length t = omega arith in h;
+      onward = beyond-here t at (request q) es next is ok n;
     }

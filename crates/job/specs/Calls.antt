@@ -13,7 +13,7 @@ use Rattle.job.specs.declared.Done.the-variants.{Bytes, Refused}
 use Rattle.job.specs.declared.Item.{Item}
 use Rattle.job.specs.declared.Item.the-variants as item
 use Rattle.job.specs.Event.{Event, attach, request, textOf, packedOf}
-use Rattle.job.specs.Text.{limit, firstLine, eventOf, wellFormed, firstBad, eventsOf}
+use Rattle.job.specs.Text.{limit, dataFrom, firstLine, eventOf, wellFormed, firstBad, eventsOf}
 use Rattle.job.specs.Packed.{capped, packs, unpacked}
 
 -- an answer in numbers: 0 and how many bytes; or the refusal's number and the line that it names
@@ -58,7 +58,7 @@ writeOf p out =
 -- what stands at a place of a text: n is the length of its line
 unfoldable pub itemFor : ℕ → ℕ → Event → Item
 itemFor at n attach = item.Attach (at + n)
-itemFor at n (request q) = item.Request (setupOf q) (at + 19) (at + n)
+itemFor at n (request q) = item.Request (setupOf q) (at + dataFrom) (at + n)
 
 -- the walk: the event that begins at a place, where its data begin, and where the next line begins
 unfoldable pub itemOf : List ℕ → ℕ → Item

@@ -26,9 +26,13 @@ unfoldable pub linesOf : List ℕ → List (List ℕ)
 linesOf [] = []
 linesOf (x ∷ t) = cond (eqb x 10) ((x ∷ []) ∷ linesOf t) (onto x (linesOf t))
 
+-- where the data begin in a request's line: behind `Q`, tab, 16 digits, tab
+abbrev pub dataFrom : ℕ
+dataFrom = 19
+
 -- the event that a line spells, if it spells one: its fields stand between the tabs, and between the last tab and LF
 unfoldable pub eventOf : List ℕ → Event
-eventOf l = cond (eqb (getD l 0 0) 65) attach (request (bytesOf (take 16 (drop 2 l)) ++ bytesOf (take (length l - 20) (drop 19 l))))
+eventOf l = cond (eqb (getD l 0 0) 65) attach (request (bytesOf (take 16 (drop 2 l)) ++ bytesOf (take (length l - 20) (drop dataFrom l))))
 
 -- a line is well formed where it is the line of the event that it spells, and "the data must have the length the event rule asks"
 unfoldable pub wellFormed : List ℕ → Bool

@@ -1,6 +1,6 @@
 -- To go by a truth value or by an order, and keep what it was. Assumes nothing.
 use mathlib.Core.Path.{_≡_, refl}
-use mathlib.Core.Bool.{Bool, true, false, _&&_, cond, false≢true}
+use mathlib.Core.Bool.{Bool, true, false, _&&_, _||_, cond, false≢true, true≢false}
 use mathlib.Core.Logic.{by-cases}
 use Prim.Native.Nat.{ℕ, _≤_, _<_}
 use native.Mathlib.Decide.{ℕ-discrete, decLt}
@@ -19,6 +19,10 @@ by-lt m n t f = by-cases (decLt m n) t (λ h. f (omega arith))
 pub and-true : (a b : Bool) → (a && b) ≡ true → (a ≡ true) × (b ≡ true)
 and-true true b e = (refl, e)
 and-true false b e = absurd (false≢true e)
+
+pub or-false : (a b : Bool) → (a || b) ≡ false → (a ≡ false) × (b ≡ false)
+or-false true b e = absurd (true≢false e)
+or-false false b e = (refl, e)
 
 pub and-right-false : (a : Bool) → (a && false) ≡ false
 and-right-false true = refl

@@ -45,7 +45,7 @@ use Rattle.loader.specs.Serve.{Run, runOf, statusOf, readAt, readOf, act
 use Rattle.loader.specs.Step.{sizesOf, admittedOf, happens, steps, stepOf}
 
 -- an action whose own status is one of the error mode's, and whose pointer lies in a region
-abbrev Proper : ℕ → Action → Type 0
+abbrev pub Proper : ℕ → Action → Type 0
 Proper n Rest = T true
 Proper n (Fail status) = statusFits Error status ≡ true
 Proper n (Point address) = inRegion n address ≡ true
@@ -89,7 +89,7 @@ erase-at-proper n (Ram at) = refl
 erase-at-proper n (Options at) = refl
 erase-at-proper n Outside = refl
 
-action-proper : (n : ℕ) (protected : Bool) (pointer : ℕ) (pending : Pending) → Proper n (actionIn pending n protected pointer)
+pub action-proper : (n : ℕ) (protected : Bool) (pointer : ℕ) (pending : Pending) → Proper n (actionIn pending n protected pointer)
 action-proper n protected pointer Nothing = tt
 action-proper n protected pointer (SetPointer address) = point-proper n address
 action-proper n true pointer (ErasePage address) = refl
@@ -104,7 +104,7 @@ action-proper n protected pointer (Write block count) =
 
 -- what running an action comes to
 module _ (n pointer : ℕ) (b m : List ℕ) (p : inRegion n pointer ≡ true) where
-  went-well : (action : Action) → inRegion n (movedOf action pointer) ≡ true → Sane n (ranOf action pointer 0)
+  pub went-well : (action : Action) → inRegion n (movedOf action pointer) ≡ true → Sane n (ranOf action pointer 0)
   went-well action h = record { well = λ e. h; ill = λ e. absurd (true≢false e) }
 
   performed-sane : (action : Action) → Proper n action → Sane n (ranOf action pointer (performedOf n action b m .status))

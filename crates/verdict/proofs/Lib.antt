@@ -1,1 +1,2 @@
 pub mod Supply
+pub mod Theorems

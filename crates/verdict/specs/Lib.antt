@@ -1,3 +1,4 @@
 pub mod World
 pub mod Verdict
 pub mod Checked
+pub mod Demand

@@ -1,0 +1,113 @@
+-- The walk over a job's text: one event further, or one that fails. Assumes nothing.
+use mathlib.Core.Path.{_≡_, refl, ap, ap₂, _∙_, sym}
+use mathlib.Core.Bool.{true}
+use mathlib.Core.List.{List, [], _∷_}
+use Prim.Native.Nat.{ℕ, suc, _+_, _-_, _*_, _≤_, _<_}
+use native.Mathlib.Omega.{arith}
+use native.Mathlib.Numerals.{add-one}
+use lib.ListN.{length, take, drop, length-drop, drop-of-length-le}
+use Rattle.request.specs.declared.Setup.{Setup}
+use Rattle.request.specs.Setup.{setupOf, dataLength}
+use Rattle.device.specs.declared.Device.{Device}
+use Rattle.device.specs.State.{started}
+use Rattle.device.specs.WellFormed.{wellFormed}
+use Rattle.device.proofs.Form.{Form, form-of, well-formed}
+use Rattle.hex.specs.Hex.{bytesOf}
+use Rattle.job.specs.declared.Item.the-variants as item
+use Rattle.job.specs.Event.{Event, attach, request, proper, textOf}
+use Rattle.job.specs.Text.{linesOf, eventsIn, eventsOf}
+use Rattle.job.specs.Calls.{itemOf}
+use Rattle.job.proofs.EventText.{text-events}
+use Rattle.job.proofs.WalkEvents.{Beyond, Attached, Requested, end-tells, bad-never, attach-tells, request-tells}
+use Rattle.cells.specs.Cells.{Over, fell, ended, falls, goes, requestMoves, moves, overOf}
+use Rattle.cells.proofs.InForm.{moves-form}
+use Rattle.checker.specs.declared.Step.{Step}
+use Rattle.checker.specs.declared.Step.the-variants as step
+use Rattle.checker.specs.declared.Onward.{Onward}
+use Rattle.checker.specs.declared.Onward.the-variants as onward
+use Rattle.checker.specs.Walk.{movedAs, Ahead, Further, Advanced}
+
+-- what stands at a place from which on the text is that of its events
+module _ (t : List ℕ) (at : ℕ) (a : Ahead t at) where
+  -- not its end, while there is text
+  pub not-at-end : at < length t → itemOf t at ≡ item.End → ⊥
+  unfolding textOf
+  not-at-end h i =
+      let none : eventsOf (drop at t) ≡ [] = end-tells t at (eventsOf (drop at t)) (a .text) (a .right) i in
+      let l : length (drop at t) ≡ 0 = ap length (a .text ∙ ap textOf none) in
+      let r : length (drop at t) ≡ length t - at = length-drop at t in
+      omega arith
+
+  pub never-bad : itemOf t at ≡ item.Bad → ⊥
+  never-bad i = bad-never t at (eventsOf (drop at t)) (a .text) (a .right) i
+
+  module _ (s : Setup) (data-at next end : ℕ) (i : itemOf t at ≡ item.Request s data-at next) (e : end ≡ data-at + dataLength s * 2) where
+    tells : Requested t at (eventsOf (drop at t)) s data-at next
+    tells = request-tells t at s data-at next (eventsOf (drop at t)) (a .text) (a .right) i
+
+    -- the digits of a request's data lie in the text
+    pub data-within : end ≤ length t
+    data-within = let h = tells .data-within in omega arith
+
+    -- its bytes are what its setup and its digits spell
+    spells : bytesOf (take (end - data-at) (drop data-at t)) ≡ drop 8 (tells .bytes)
+    spells = let l : end - data-at ≡ dataLength s * 2 = omega arith in ap (λ (k : ℕ). bytesOf (take k (drop data-at t))) l ∙ tells .data-bytes
+
+module _ (n : ℕ) (t : List ℕ) (at : ℕ) (d : Device) (w : List ℕ) (a : Ahead t at) where
+  -- an event that fails
+  fallen : (e : Event) (rest : List Event) → eventsOf (drop at t) ≡ e ∷ rest → moves n d w e ≡ falls → (k : ℕ) → overOf n (eventsOf (drop at t)) d w k ≡ fell (suc k)
+  unfolding overOf
+  fallen e rest is m k = rw (is, m)
+
+  module _ (some : 1 ≤ n) (f : wellFormed n d ≡ true) where
+    -- an event that does not
+    further : (e : Event) (rest : List Event) (next : ℕ) → eventsOf (drop at t) ≡ e ∷ rest → Beyond t at rest next → (d′ : Device) (w′ : List ℕ) → moves n d w e ≡ goes d′ w′ → Further n t at d w d′ next w′
+    unfolding overOf
+    further e rest next is o d′ w′ m =
+        let back : eventsOf (drop next t) ≡ rest = ap eventsOf (o .text) ∙ text-events rest (o .right) in
+        record {
+          over = λ k. rw (is, m, back);
+          ahead = record { text = o .text ∙ ap textOf (sym back); right = ap proper back ∙ o .right };
+          more = o .more;
+          within = o .within;
+          form = well-formed n d′ (moves-form n d w e d′ w′ some (form-of n d f) m);
+        }
+
+    pub attach-further : (next : ℕ) → itemOf t at ≡ item.Attach next → Further n t at d w started next w
+    unfolding moves
+    attach-further next i =
+        let x = attach-tells t at next (eventsOf (drop at t)) (a .text) (a .right) i in
+        further attach (x .rest) next (x .events) (x .onward) started w refl
+
+  -- a request, with what the step r made of it and of the work area
+  module _ (s : Setup) (data-at next end : ℕ) (i : itemOf t at ≡ item.Request s data-at next) (e : end ≡ data-at + dataLength s * 2) (r : Step) (w′ : List ℕ) (did : movedAs r w′ ≡ requestMoves n d s (bytesOf (take (end - data-at) (drop data-at t))) w) where
+    asks : Requested t at (eventsOf (drop at t)) s data-at next
+    asks = tells t at a s data-at next end i e
+
+    moves-as : moves n d w (request (asks .bytes)) ≡ movedAs r w′
+    unfolding moves asks
+    moves-as = ap₂ (λ (y : Setup) (xs : List ℕ). requestMoves n d y xs w) (sym (asks .asked)) (sym (spells t at a s data-at next end i e)) ∙ sym did
+
+    pub request-falls : r ≡ step.Falls → (k : ℕ) → overOf n (eventsOf (drop at t)) d w k ≡ fell (suc k)
+    request-falls is = fallen (request (asks .bytes)) (asks .rest) (asks .events) (moves-as ∙ ap (λ (x : Step). movedAs x w′) is)
+
+    pub request-further : 1 ≤ n → wellFormed n d ≡ true → (d′ : Device) → r ≡ step.Goes d′ → Further n t at d w d′ next w′
+    request-further some f d′ is = further some f (request (asks .bytes)) (asks .rest) next (asks .events) (asks .onward) d′ w′ (moves-as ∙ ap (λ (x : Step). movedAs x w′) is)
+
+-- a run over the events in turn, after k of them
+module _ (n : ℕ) (t : List ℕ) (at : ℕ) (d : Device) (w : List ℕ) (k : ℕ) (r : Onward) (w′ : List ℕ) (o : Over) (did : Advanced n t at d w r w′) (so : overOf n (eventsOf (drop at t)) d w k ≡ o) where
+  pub run-fell : r ≡ onward.Falls → fell (k + 1) ≡ o
+  run-fell is = let h : Advanced n t at d w onward.Falls w′ = rw is at did in ap fell (add-one k) ∙ sym (h k) ∙ so
+
+  pub run-further : (d′ : Device) (behind : ℕ) → r ≡ onward.Goes d′ behind → Further n t at d w d′ behind w′
+  run-further d′ behind is = rw is at did
+
+  pub run-on : (d′ : Device) (behind : ℕ) → r ≡ onward.Goes d′ behind → overOf n (eventsOf (drop behind t)) d′ w′ (k + 1) ≡ o
+  run-on d′ behind is = rw (add-one k) (sym (run-further d′ behind is .over k) ∙ so)
+
+-- at the end of the text no event is left
+pub run-over : (n : ℕ) (t : List ℕ) (at : ℕ) (d : Device) (w : List ℕ) (k : ℕ) (o : Over) → length t ≤ at → overOf n (eventsOf (drop at t)) d w k ≡ o → ended d w ≡ o
+unfolding eventsOf linesOf eventsIn overOf
+run-over n t at d w k o h so =
+    let none : drop at t ≡ [] = drop-of-length-le t h in
+    ap (λ (u : List ℕ). overOf n (eventsOf u) d w k) (sym none) ∙ so

@@ -1,0 +1,106 @@
+-- The call from end to end: its refusals, and the verdict of what they let through. Assumes nothing.
+use mathlib.Core.Path.{_≡_, refl, ap, _∙_, sym}
+use mathlib.Core.Bool.{Bool, true, false, cond, not, false≢true}
+use mathlib.Core.List.{List, [], _∷_}
+use Prim.Native.Nat.{ℕ, zero, suc, _≤_, _<_}
+use native.Mathlib.Omega.{arith}
+use lib.Dec.{eqb, ltb}
+use lib.ListN.{length, drop, getD}
+use borrow.Author.Tests.{eq-eqb, ne-eqb, eqb-true, lt-ltb, le-ltb}
+use Rattle.laws.proofs.Split.{by-bool}
+use Rattle.board.specs.Layout.{flashBytes, optionBytes}
+use Rattle.refusal.specs.declared.Refusal.{Refusal}
+use Rattle.refusal.specs.declared.Refusal.the-variants as refusal
+use Rattle.device.specs.declared.Device.{Device}
+use Rattle.device.specs.State.{started}
+use Rattle.loader.specs.declared.Admission.{Admission}
+use Rattle.loader.specs.declared.Admission.the-variants as admission
+use Rattle.job.specs.declared.Done.{Done}
+use Rattle.job.specs.declared.Done.the-variants.{Bytes, Refused}
+use Rattle.hex.specs.Hex.{allBytes}
+use Rattle.job.specs.Event.{Event, attach, request, fits, proper}
+use Rattle.job.specs.Text.{firstBad, eventsOf}
+use Rattle.job.specs.Calls.{told, measureOf}
+use Rattle.job.proofs.Answers.{told-injective}
+use Rattle.job.proofs.EventText.{proper-parts, good-text, good-proper}
+use Rattle.verdict.specs.declared.Verdict.{Verdict}
+use Rattle.verdict.specs.declared.Verdict.the-variants as verdict
+use Rattle.verdict.specs.Checked.{workBytes, supplied, readable, then, checkable, Checked}
+use Rattle.verdict.proofs.Supply.{Checkable, checkable-parts}
+use Rattle.cells.specs.Cells.{Over, fell, ended, overOf, endVerdict, overVerdict, begun, verdictOf}
+use Rattle.cells.proofs.Events.{Fitting}
+use Rattle.cells.proofs.Runs.{AllFit}
+use Rattle.cells.proofs.Judgement.{judged}
+use Rattle.checker.specs.declared.Outcome.{Outcome}
+use Rattle.checker.specs.declared.Outcome.the-variants as outcome
+use Rattle.checker.specs.Walk.{Ahead, overAs}
+
+-- a run's outcome r with the work area w₂, from the work area w₁ that begins with the card
+module _ (n : ℕ) (es : List Event) (image card w w₁ w₂ : List ℕ) (r : Outcome) (start : w₁ ≡ begun n card w) (ran : overAs r w₂ ≡ overOf n es started w₁ 0) where
+  over-is : overOf n es started (begun n card w) 0 ≡ overAs r w₂
+  over-is = ap (λ (x : List ℕ). overOf n es started x 0) (sym start) ∙ sym ran
+
+  pub judged-fell : (k : ℕ) → r ≡ outcome.Fell k → verdict.Event k ≡ verdictOf n es image card w
+  unfolding verdictOf
+  judged-fell k is = sym (ap (overVerdict n image card) (over-is ∙ ap (λ (x : Outcome). overAs x w₂) is))
+
+  pub judged-ended : (d : Device) (v : Verdict) → r ≡ outcome.Ended d → v ≡ endVerdict n image card d w₂ → v ≡ verdictOf n es image card w
+  unfolding verdictOf
+  judged-ended d v is so = so ∙ sym (ap (overVerdict n image card) (over-is ∙ ap (λ (x : Outcome). overAs x w₂) is))
+
+-- what the reader's answer r comes to
+module _ (t : List ℕ) (r : Done) (is : told r ≡ told (measureOf t)) where
+  pub readable-bytes : (size : ℕ) → r ≡ Bytes size → admission.Admitted ≡ readable (measureOf t)
+  readable-bytes size so = ap readable (sym so ∙ told-injective r (measureOf t) is)
+
+  pub readable-refused : (why : Refusal) → r ≡ Refused why → admission.Refused why ≡ readable (measureOf t)
+  readable-refused why so = ap readable (sym so ∙ told-injective r (measureOf t) is)
+
+-- the refusals in their order
+module _ (n : ℕ) (t : List ℕ) (image card work : ℕ) where
+  pub checkable-work : (work ≡ workBytes n → ⊥) → admission.Refused refusal.Work ≡ checkable n t image card work
+  unfolding checkable
+  checkable-work odd = rw (ne-eqb work (workBytes n) odd)
+
+  module _ (size : work ≡ workBytes n) (s : Admission) (is : s ≡ supplied n image card) where
+    checkable-then : checkable n t image card work ≡ then s (readable (measureOf t))
+    unfolding checkable
+    checkable-then = rw (eq-eqb work (workBytes n) size, is)
+
+    pub checkable-refused : (why : Refusal) → s ≡ admission.Refused why → admission.Refused why ≡ checkable n t image card work
+    checkable-refused why so = sym (checkable-then ∙ ap (λ (x : Admission). then x (readable (measureOf t))) so)
+
+    pub checkable-readable : (a : Admission) → s ≡ admission.Admitted → a ≡ readable (measureOf t) → a ≡ checkable n t image card work
+    checkable-readable a so r = r ∙ sym (checkable-then ∙ ap (λ (x : Admission). then x (readable (measureOf t))) so)
+
+-- where a call is admitted, the walk begins with all of its events
+pub walk-ahead : (t : List ℕ) → firstBad t ≡ 0 → Ahead t 0
+walk-ahead t h = record { text = sym (good-text t h); right = good-proper t h }
+
+-- a list of bytes, byte by byte
+pub bytes-all : (xs : List ℕ) → ((i : ℕ) → getD xs i 0 < 256) → allBytes xs ≡ true
+unfolding allBytes
+bytes-all [] h = refl
+bytes-all (x ∷ xs) h = rw (lt-ltb x 256 (h 0), bytes-all xs (λ i. h (suc i)))
+
+event-fits : (e : Event) → fits e ≡ true → Fitting e
+unfolding fits
+event-fits attach h = tt
+event-fits (request q) h = h
+
+proper-fits : (es : List Event) → proper es ≡ true → AllFit es
+proper-fits [] h = tt
+proper-fits (e ∷ es) h = let p = proper-parts e es h in (event-fits e (p .0), proper-fits es (p .2))
+
+-- what an admission a of the call comes to
+module _ (n : ℕ) (t image card w : List ℕ) (a : Admission) (is : a ≡ checkable n t (length image) (length card) (length w)) where
+  pub checked-refused : (why : Refusal) (w′ : List ℕ) → a ≡ admission.Refused why → w′ ≡ w → Checked n t image card w (verdict.Refused why) w′
+  checked-refused why w′ so kept = rw (sym is ∙ so) (refl, kept)
+
+  pub checked-parts : a ≡ admission.Admitted → Checkable n t (length image) (length card) (length w)
+  checked-parts so = checkable-parts n t (length image) (length card) (length w) (sym is ∙ so)
+
+  pub checked-judged : (v : Verdict) (w′ : List ℕ) → a ≡ admission.Admitted → 1 ≤ n → allBytes card ≡ true → v ≡ verdictOf n (eventsOf t) image card w → Checked n t image card w v w′
+  checked-judged v w′ so some bytes j =
+      let c = checked-parts so in
+      rw (sym is ∙ so, j) (judged n (eventsOf t) image card w some (c .area) (c .supply .options) bytes (proper-fits (eventsOf t) (good-proper t (c .clean))))

@@ -1,0 +1,103 @@
+-- `checker::run` meets its contract. Assumes nothing.
+use mathlib.Core.Path.{_≡_, refl, _∙_}
+use mathlib.Core.Bool.{true}
+use Prim.Native.Nat.{_-_, _≤_}
+use native.Mathlib.Omega.{arith}
+use lib.ListN.{length, drop}
+use Rattle.device.specs.State.{started}
+use Rattle.device.specs.WellFormed.{wellFormed}
+use Rattle.device.proofs.Form.{well-formed}
+use Rattle.loader.proofs.Form.{started-form}
+use Rattle.job.specs.Text.{eventsOf}
+use Rattle.verdict.specs.Checked.{workBytes}
+use Rattle.cells.specs.Cells.{overOf}
+use Rattle.checker.specs.Walk.{Ahead}
+use Rattle.checker.proofs.Advancing.{run-fell, run-further, run-on, run-over}
+use borrow.Author.Needs.{needs}
+use Rattle.checker.proofs.run.Statement.{statement}
+use Rattle.checker.proofs.run.Tie as tie
+
+abbrev Inv-loop : tie.InvT-loop
+Inv-loop board job work₀ device₀ at₀ events₀ work device at events =
+    (overOf (board .pages) (eventsOf (drop at job)) device work events ≡ overOf (board .pages) (eventsOf job) started work₀ 0)
+    × (length work ≡ workBytes (board .pages))
+    × (wellFormed (board .pages) device ≡ true)
+    × Ahead job at
+    × (at ≤ length job)
+    × (events ≤ at)
+
+abbrev μ-loop : tie.MeasureT-loop
+μ-loop board job work₀ device₀ at₀ events₀ work device at events = length job - at
+
+loop-holds : tie.Need-loop-holds Inv-loop μ-loop
+loop-holds c =
+    let p = c .before .before .pre in
+    (refl, p .0, well-formed _ _ (started-form _ (p .1)), p .2, omega arith, omega arith)
+
+advance-requires : tie.Need-advance-requires Inv-loop μ-loop
+advance-requires c κs =
+    let l = c .before .before .loop .inv in
+    (l .1, c .before .before .before .before .before .pre .1, l .2, l .3, c .before .loop-test .taken)
+
+add-events : tie.Need-add-events Inv-loop μ-loop
+add-events c =
+    let l = c .before .before .before .before in
+    omega (arith, l .loop-test .taken, l .before .loop .inv .5, l .before .loop .inv .4)
+
+enum-told : tie.Need-enum-told Inv-loop μ-loop
+enum-told c = search needs
+
+same-length : tie.Need-same-length Inv-loop μ-loop
+same-length c = search needs
+
+returns : tie.Need-returns Inv-loop μ-loop
+returns c =
+    let a = c .before .before .before .before in
+    run-fell _ _ _ _ _ _ _ _ _ (a .advance .ensures) (a .before .before .before .loop .inv .0) (c .enum-told .given .1)
+
+enum-known-onward : tie.Need-enum-known-onward Inv-loop μ-loop
+enum-known-onward c = search needs
+
+loop-less : tie.Need-loop-less Inv-loop μ-loop
+loop-less c =
+    let a = c .before .before .before .before .before in
+    let l = a .before .before .before .loop in
+    let f = run-further _ _ _ _ _ _ _ _ _ (a .advance .ensures) (l .inv .0) _ _ (c .before .onward .given .1) in
+    omega (arith, f .more, f .within)
+
+loop-again : tie.Need-loop-again Inv-loop μ-loop
+loop-again c =
+    let a = c .before .before .before .before .before in
+    let l = a .before .before .before .loop in
+    let f = run-further _ _ _ _ _ _ _ _ _ (a .advance .ensures) (l .inv .0) _ _ (c .before .onward .given .1) in (
+      run-on _ _ _ _ _ _ _ _ _ (a .advance .ensures) (l .inv .0) _ _ (c .before .onward .given .1),
+      omega (arith, a .advance .kept, l .inv .1),
+      f .form,
+      f .ahead,
+      f .within,
+      omega (arith, f .more, l .inv .5),
+    )
+
+same-length-2 : tie.Need-same-length-2 Inv-loop μ-loop
+same-length-2 c = search needs
+
+returns-2 : tie.Need-returns-2 Inv-loop μ-loop
+returns-2 c = run-over _ _ _ _ _ _ _ (c .loop-test .left) (c .before .loop .inv .0)
+
+pub run-spec : {M : Type 1} → statement M
+run-spec =
+    tie.close
+    (tie.spec
+    Inv-loop
+    μ-loop
+    loop-holds
+    advance-requires
+    add-events
+    enum-told
+    same-length
+    returns
+    enum-known-onward
+    loop-less
+    loop-again
+    same-length-2
+    returns-2)
