@@ -1,2 +1,5 @@
 pub mod Supply
+pub mod Decimal
+pub mod Line
+pub mod Reading
 pub mod Theorems

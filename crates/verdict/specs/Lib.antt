@@ -2,3 +2,4 @@ pub mod World
 pub mod Verdict
 pub mod Checked
 pub mod Demand
+pub mod Report

@@ -1,0 +1,73 @@
+-- A report line tells its verdict. Assumes nothing.
+use mathlib.Core.Path.{_≡_, refl, ap, ap₂, _∙_, sym}
+use mathlib.Core.Bool.{cond}
+use mathlib.Core.List.{List, [], _∷_, _++_, append-assoc}
+use Prim.Native.Nat.{ℕ, _<_}
+use native.Mathlib.Omega.{arith}
+use lib.Dec.{eqb}
+use lib.ListN.{drop, getD}
+use Rattle.refusal.specs.declared.Refusal.the-variants.{Line}
+use Rattle.refusal.proofs.Numbers.{refusalAt, refusal-back}
+use Rattle.verdict.specs.declared.Verdict.{Verdict}
+use Rattle.verdict.specs.declared.Verdict.the-variants as verdict
+use Rattle.verdict.specs.Report.{kindOf, numberOf, digitsOf, decimalOf, tab, lineFeed, reportOf}
+use Rattle.verdict.proofs.Decimal.{readOn, digitsIn, behind, decimal-behind, field-read}
+
+-- the verdict of a word's third letter, a kind and a number
+unfoldable pub verdictFor : ℕ → ℕ → ℕ → Verdict
+verdictFor letter kind number =
+    cond (eqb letter 67) verdict.Pass
+    (cond (eqb letter 70) (verdict.Refused (refusalAt kind number))
+    (cond (eqb kind 1) (verdict.Event number)
+    (cond (eqb kind 2) (verdict.End number) (verdict.Flash number))))
+
+-- the verdict that a line says
+unfoldable pub verdictIn : List ℕ → Verdict
+verdictIn l = verdictFor (getD l 2 0) (readOn 0 (digitsIn (drop 7 l))) (readOn 0 (digitsIn (behind (drop 7 l))))
+
+tab-behind : (t : List ℕ) → behind (9 ∷ t) ≡ t
+unfolding behind
+tab-behind t = refl
+
+-- kind and number, from what stands behind the word
+module _ (k n : ℕ) where
+  fields : List ℕ
+  fields = decimalOf k ++ tab ++ decimalOf n ++ lineFeed
+
+  apart : fields ≡ decimalOf k ++ (9 ∷ (decimalOf n ++ lineFeed))
+  unfolding fields
+  apart = append-assoc (decimalOf k ++ tab) (decimalOf n) lineFeed ∙ append-assoc (decimalOf k) tab (decimalOf n ++ lineFeed)
+
+  kind-in : readOn 0 (digitsIn fields) ≡ k
+  kind-in = ap (λ (l : List ℕ). readOn 0 (digitsIn l)) apart ∙ field-read k 9 (decimalOf n ++ lineFeed) (let h : 9 < 48 = omega arith in h)
+
+  number-in : readOn 0 (digitsIn (behind fields)) ≡ n
+  number-in =
+      ap (λ (l : List ℕ). readOn 0 (digitsIn l))
+      (ap behind apart ∙ decimal-behind k (9 ∷ (decimalOf n ++ lineFeed)) ∙ tab-behind (decimalOf n ++ lineFeed))
+      ∙ field-read n 10 [] (let h : 10 < 48 = omega arith in h)
+
+  told : (letter : ℕ) → verdictFor letter (readOn 0 (digitsIn fields)) (readOn 0 (digitsIn (behind fields))) ≡ verdictFor letter k n
+  told letter = ap₂ (verdictFor letter) kind-in number-in
+
+-- Reading a verdict's line gives the verdict back.
+pub report-read : (v : Verdict) → verdictIn (reportOf v) ≡ v
+unfolding verdictIn reportOf verdictFor fields
+report-read verdict.Pass = told 0 0 67
+report-read (verdict.Event k) = told 1 k 74
+report-read (verdict.End c) = told 2 c 74
+report-read (verdict.Flash f) = told 3 f 74
+report-read (verdict.Refused r) = told (kindOf (verdict.Refused r)) (numberOf (verdict.Refused r)) 70 ∙ ap verdict.Refused (refusal-back r)
+
+-- Two verdicts with the same line are the same verdict.
+pub report-injective : (v w : Verdict) → reportOf v ≡ reportOf w → v ≡ w
+report-injective v w e = sym (report-read v) ∙ ap verdictIn e ∙ report-read w
+
+-- Two lines, spelled out: `ACCEPT 0 0` and `REFUSE 10 12`, with their tabs.
+pub pass-line : reportOf verdict.Pass ≡ 65 ∷ 67 ∷ 67 ∷ 69 ∷ 80 ∷ 84 ∷ 9 ∷ 48 ∷ 9 ∷ 48 ∷ 10 ∷ []
+unfolding reportOf decimalOf digitsOf
+pass-line = refl
+
+pub refusal-line : reportOf (verdict.Refused (Line 12)) ≡ 82 ∷ 69 ∷ 70 ∷ 85 ∷ 83 ∷ 69 ∷ 9 ∷ 49 ∷ 48 ∷ 9 ∷ 49 ∷ 50 ∷ 10 ∷ []
+unfolding reportOf decimalOf digitsOf
+refusal-line = refl
