@@ -23,7 +23,7 @@ digits-enough (suc j) (suc k) n h g =
     let a : n / 10 ≤ j = omega arith in
     let b : n / 10 ≤ k = omega arith in
     let e : digitsOf (suc j) (n / 10) ≡ digitsOf (suc k) (n / 10) = digits-enough j k (n / 10) a b in
-    ap (λ (l : List ℕ). cond (ltb n 10) ((48 + n) ∷ []) (l ++ ((48 + n % 10) ∷ []))) e)
+    rw (le-ltb n 10 s, e))
 
 pub one-digit : (n : ℕ) → n < 10 → decimalOf n ≡ (48 + n) ∷ []
 unfolding decimalOf digitsOf
