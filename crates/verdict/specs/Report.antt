@@ -40,9 +40,11 @@ digitsOf (suc k) n = cond (ltb n 10) ((48 + n) ∷ []) (digitsOf k (n / 10) ++ (
 unfoldable pub decimalOf : ℕ → List ℕ
 decimalOf n = digitsOf (suc n) n
 
+-- "tab-parted"
 abbrev pub tab : List ℕ
 tab = 9 ∷ []
 
+-- what ends "one line"
 abbrev pub lineFeed : List ℕ
 lineFeed = 10 ∷ []
 
