@@ -1,0 +1,26 @@
+-- The bench cases marked P, computed. Document 01, "Bench cases". Assumes nothing.
+use mathlib.Core.Path.{_≡_, refl}
+use mathlib.Core.Bool.{true}
+use mathlib.Core.List.{List, [], map}
+use Prim.Native.Nat.{ℕ}
+use native.Mathlib.Omega.{arith}
+use lib.ListN.{length, replicate, length-replicate}
+use Rattle.board.specs.Layout.{loggerPages, optionBytes}
+use Rattle.hex.specs.Hex.{allBytes}
+use Rattle.verdict.specs.declared.Verdict.the-variants.{End}
+use Rattle.verdict.specs.Verdict.{Judged}
+use Rattle.verdict.specs.Checked.{workBytes}
+use Rattle.cells.specs.Cells.{overOf, endVerdict, verdictOf}
+use Rattle.cells.proofs.Judgement.{judged}
+use Rattle.bench.specs.Case.{found, foundIn, expectedIn}
+use Rattle.bench.specs.Table.{table}
+
+-- every case finds what it is to find
+pub bench : map foundIn table ≡ map expectedIn table
+unfolding found
+bench = refl
+
+-- "empty job: End 1", as the public relation says it, whatever image and card
+pub empty-job : (image card : List ℕ) → length card ≡ optionBytes → allBytes card ≡ true → Judged loggerPages [] image card (End 1)
+unfolding verdictOf overOf endVerdict
+empty-job image card lc bytes = judged loggerPages [] image card (replicate (workBytes loggerPages) 0) (omega arith) (length-replicate {A = ℕ} (workBytes loggerPages) 0) lc bytes tt

@@ -1,0 +1,86 @@
+-- The bench cases marked P. Document 01, "Bench cases". Assumes nothing.
+use mathlib.Core.List.{List, [], _∷_, _++_}
+use Prim.Native.Nat.{ℕ, _/_, _%_}
+use lib.ListN.{length, replicate}
+use Rattle.laws.specs.Bytes.{put, filled}
+use Rattle.board.specs.Layout.{defaults}
+use Rattle.device.specs.declared.Mode.{Mode}
+use Rattle.device.specs.declared.Mode.the-variants.{Idle, DownloadSync, DownloadBusy, Error, Rebooting}
+use Rattle.verdict.specs.declared.Verdict.the-variants.{End}
+use Rattle.bench.specs.Case.{Finding, locate, ask, check, address, state, judgement, Case, _⇒_}
+
+-- requests of document 01, "Events"
+abbrev pub download : ℕ → List ℕ → List ℕ
+download value xs = 0x21 ∷ 1 ∷ value ∷ 0 ∷ 0 ∷ 0 ∷ length xs % 0x100 ∷ length xs / 0x100 ∷ xs
+
+abbrev pub getStatus : List ℕ
+getStatus = 0xA1 ∷ 3 ∷ 0 ∷ 0 ∷ 0 ∷ 0 ∷ 6 ∷ 0 ∷ []
+
+abbrev pub clearStatus : List ℕ
+clearStatus = 0x21 ∷ 4 ∷ 0 ∷ 0 ∷ 0 ∷ 0 ∷ 0 ∷ 0 ∷ []
+
+-- a command with an address: "four address bytes, low first"
+abbrev pub command : ℕ → ℕ → List ℕ
+command code at = download 0 (code ∷ at % 0x100 ∷ at / 0x100 % 0x100 ∷ at / 0x10000 % 0x100 ∷ at / 0x1000000 ∷ [])
+
+-- erase the page at an address
+abbrev pub erase : ℕ → List (List ℕ)
+erase at = command 0x41 at ∷ getStatus ∷ []
+
+-- set the pointer to an address, and write bytes there
+abbrev pub write : ℕ → List ℕ → List (List ℕ)
+write at xs = command 0x21 at ∷ getStatus ∷ getStatus ∷ download 2 xs ∷ getStatus ∷ []
+
+-- memory with one byte all over flash and RAM, then the options
+abbrev pub memory : ℕ → List ℕ → List ℕ
+memory v card = replicate 18432 v ++ card
+
+abbrev pub blank : List ℕ
+blank = memory 0xFF defaults
+
+-- "card byte 8 = 0xFE"
+abbrev pub guarded : List ℕ
+guarded = memory 0x77 (put 8 (0xFE ∷ []) defaults)
+
+-- a GETSTATUS that ran a command shows status 0 and mode 4, or an error's status and mode 10
+abbrev pub done : Mode → List ℕ → Finding
+done mode m = state (1 ∷ 6 ∷ 0 ∷ 100 ∷ 0 ∷ 0 ∷ 4 ∷ 0 ∷ []) 0 mode m
+
+abbrev pub failed : ℕ → List ℕ → Finding
+failed status m = state (1 ∷ 6 ∷ status ∷ 0 ∷ 0 ∷ 0 ∷ 10 ∷ 0 ∷ []) status Error m
+
+-- the answers Accepted, and Stall with status 15
+abbrev pub accepted : Mode → List ℕ → Finding
+accepted mode m = state (0 ∷ []) 0 mode m
+
+abbrev pub stalled : List ℕ → Finding
+stalled m = state (2 ∷ []) 15 Error m
+
+-- the nine cases, in the document's order
+abbrev pub table : List Case
+table =
+    -- P: pointer 0x08000000, wValue 3, length 512: address 0x08000200.
+    (locate 3 512 0x08000000 ⇒ address 0x08000200 ∷
+    ask (download 3 (replicate 512 0x5A) ∷ getStatus ∷ []) blank ⇒ done DownloadBusy (put 0x200 (replicate 512 0x5A) blank) ∷ []) ∷
+    -- P: write of 2,048 at 0x08003800 is in range; at 0x08003802 status 1.
+    (ask (write 0x08003800 (replicate 2048 0x5A)) blank ⇒ done DownloadBusy (put 0x3800 (replicate 2048 0x5A) blank) ∷
+    ask (write 0x08003802 (replicate 2048 0x5A)) blank ⇒ failed 1 blank ∷ []) ∷
+    -- P: RAM write of length 1: status 1; of 2: stored.
+    (ask (write 0x20000000 (0x5A ∷ [])) blank ⇒ failed 1 blank ∷
+    ask (write 0x20000000 (0x5A ∷ 0x5B ∷ [])) blank ⇒ done DownloadBusy (put 16384 (0x5A ∷ 0x5B ∷ []) blank) ∷ []) ∷
+    -- P: options write of 15 bytes: 1; of 16: stored, then Rebooting.
+    (ask (write 0x1FFFF800 (replicate 15 0x5A)) blank ⇒ failed 1 blank ∷
+    ask (write 0x1FFFF800 (replicate 16 0x5A)) blank ⇒ done Rebooting (put 18432 (replicate 16 0x5A) blank) ∷ []) ∷
+    -- P: card byte 8 = 0xFE; erase page at 0x08000000 reports 0 and changes no memory byte.
+    (ask (erase 0x08000000) guarded ⇒ done DownloadBusy guarded ∷ []) ∷
+    -- P: the same card, page 1 erased, four bytes at 0x080003FE: only the last two are stored.
+    (ask (erase 0x08000400 ++ (getStatus ∷ write 0x080003FE (1 ∷ 2 ∷ 3 ∷ 4 ∷ []))) guarded ⇒ done DownloadBusy (put 0x400 (3 ∷ 4 ∷ []) (filled 0x400 1024 0xFF guarded)) ∷ []) ∷
+    -- P: DNLOAD in mode 2, wValue 2: wLength 2,048 accepted, 2,049 stalls.
+    (ask (download 2 (replicate 2048 0x5A) ∷ []) blank ⇒ accepted DownloadSync blank ∷
+    ask (download 2 (replicate 2049 0x5A) ∷ []) blank ⇒ stalled blank ∷ []) ∷
+    -- P: empty job: End 1.
+    (check [] (0x5A ∷ []) defaults ⇒ judgement (End 1) ∷ []) ∷
+    -- P: CLRSTATUS in mode 2 stalls, in mode 10 gives mode 2.
+    (ask (clearStatus ∷ []) blank ⇒ stalled blank ∷
+    ask (clearStatus ∷ clearStatus ∷ []) blank ⇒ accepted Idle blank ∷ []) ∷
+    []
