@@ -20,7 +20,7 @@ pub bench : map foundIn table ≡ map expectedIn table
 unfolding found
 bench = refl
 
--- "empty job: End 1", as the public relation says it, whatever image and card
+-- "empty job: End 1", as the promised relation says it, for every image and every card of 16 bytes
 pub empty-job : (image card : List ℕ) → length card ≡ optionBytes → allBytes card ≡ true → Judged loggerPages [] image card (End 1)
 unfolding verdictOf overOf endVerdict
 empty-job image card lc bytes = judged loggerPages [] image card (replicate (workBytes loggerPages) 0) (omega arith) (length-replicate {A = ℕ} (workBytes loggerPages) 0) lc bytes tt

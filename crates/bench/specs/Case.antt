@@ -46,10 +46,11 @@ abbrev pub asked : List (List ℕ) → Outcome → Outcome
 asked [] o = o
 asked (q ∷ qs) o = asked qs (stepOf loggerPages (o .device) event.Request q (o .memory) (o .block) (o .reply))
 
+-- what there is to see of an outcome
 abbrev pub stateOf : Outcome → Finding
 stateOf o = state (o .answer ++ take (getD (o .answer) 1 0) (o .reply)) (o .device .status) (o .device .mode) (o .memory)
 
--- what a deed comes to by the definitions that the promises use
+-- what a deed comes to: by the promises' own definitions, and by `verdictOf`, which the law `judged` ties to the promised verdict
 unfoldable pub found : Deed → Finding
 unfolding put filled spans placeOf lockedFrom wordFrom readProtected wordOf writeProtected outwardOf inwardOf requestOf setupOf dataLength fitsOf allowedOf afterStatus reportOf inRegion wellFormed commandOf commandedOf downloadOf decideOf blockAddress accessOf actionOf each blank laid stored erased runOf statusOf serveOf admittedOf stepOf overOf endVerdict verdictOf
 found (locate value count pointer) = address (blockAddress value count pointer)
