@@ -1,1 +1,4 @@
 pub mod Requests
+pub mod Page
+pub mod Image
+pub mod Card

@@ -1,0 +1,45 @@
+-- What a card allows that does not bar an image. Assumes nothing.
+use mathlib.Core.Path.{_≡_, refl, ap, _∙_, sym}
+use mathlib.Core.Bool.{Bool, true, false, _&&_, _||_, true≢false}
+use mathlib.Core.List.{List, [], _∷_}
+use Prim.Native.Nat.{ℕ, zero, suc, _+_, _*_, _^_, _≤_, _<_}
+use native.Mathlib.Omega.{arith}
+use lib.Dec.{ltb}
+use lib.ListN.{getD}
+use borrow.Author.Tests.{ltb-true}
+use Rattle.laws.proofs.Split.{by-lt, and-true}
+use Rattle.board.specs.Protection.{lockedFrom, wordFrom, writeProtected}
+use Rattle.board.proofs.Protection.{protected-past}
+use Rattle.hex.specs.Hex.{allBytes}
+use Rattle.plan.specs.Plan.{pagesOf, anyProtected, barred}
+
+pub or-false : (a b : Bool) → (a || b) ≡ false → (a ≡ false) × (b ≡ false)
+or-false true b e = absurd (true≢false e)
+or-false false b e = (refl, e)
+
+pub byte-small : (xs : List ℕ) (i : ℕ) → allBytes xs ≡ true → getD xs i 0 < 256
+unfolding allBytes
+byte-small [] i h = omega arith
+byte-small (x ∷ xs) zero h = ltb-true _ _ (and-true (ltb x 256) (allBytes xs) h .0)
+byte-small (x ∷ xs) (suc i) h = byte-small xs i (and-true (ltb x 256) (allBytes xs) h .1)
+
+word-small : (card : List ℕ) → allBytes card ≡ true → wordFrom 0 card < 2 ^ 32
+unfolding wordFrom
+word-small card bytes =
+    let a : getD card 8 0 < 256 = byte-small card 8 bytes in
+    let b : getD card 9 0 < 256 = byte-small card 9 bytes in
+    let c : getD card 8 0 + getD card 9 0 * 256 < 4294967296 = omega arith in
+    c
+
+-- a page that the card leaves open has a bit of its own, so that its address is short
+pub free-page-small : (card : List ℕ) (page : ℕ) → allBytes card ≡ true → writeProtected (wordFrom 0 card) page ≡ false → page < 32
+free-page-small card page bytes e =
+    by-lt page 32 (λ h. h) (λ h. absurd (true≢false (sym (protected-past (wordFrom 0 card) page (word-small card bytes) h) ∙ e)))
+
+pub barred-parts : (image card : List ℕ) → barred image card ≡ false → (lockedFrom 0 card ≡ false) × (anyProtected (wordFrom 0 card) (pagesOf image) 0 ≡ false)
+unfolding barred
+barred-parts image card e = or-false (lockedFrom 0 card) (anyProtected (wordFrom 0 card) (pagesOf image) 0) e
+
+pub protected-parts : (word count page : ℕ) → anyProtected word (suc count) page ≡ false → (writeProtected word page ≡ false) × (anyProtected word count (suc page) ≡ false)
+unfolding anyProtected
+protected-parts word count page e = or-false (writeProtected word page) (anyProtected word count (suc page)) e
