@@ -2,3 +2,4 @@ pub mod Requests
 pub mod Page
 pub mod Image
 pub mod Card
+pub mod Pages

@@ -18,7 +18,7 @@ use Rattle.request.specs.declared.Request.the-variants.{Download, GetStatus}
 use Rattle.request.specs.Setup.{setupOf}
 use Rattle.request.specs.Request.{transferBytes, requestOf, outwardOf, inwardOf}
 use Rattle.device.specs.declared.Mode.{Mode}
-use Rattle.device.specs.declared.Mode.the-variants.{DownloadSync, DownloadBusy, DownloadIdle, ManifestSync, Left}
+use Rattle.device.specs.declared.Mode.the-variants.{Idle, DownloadSync, DownloadBusy, DownloadIdle, ManifestSync, Left}
 use Rattle.device.specs.declared.Pending.{Pending}
 use Rattle.device.specs.declared.Pending.the-variants.{Nothing, SetPointer, ErasePage, Write}
 use Rattle.device.specs.declared.Device.{Device}
@@ -42,6 +42,15 @@ resting mode pointer = record { mode = mode; status = 0; pointer = pointer; pend
 
 abbrev pub waiting : Pending → ℕ → Device
 waiting pending pointer = record { mode = DownloadSync; status = 0; pointer = pointer; pending = pending }
+
+-- DNLOAD is allowed in the modes that a plan meets it in
+pub start-free : allowedOf Download Idle ≡ true
+unfolding allowedOf
+start-free = refl
+
+pub idle-free : allowedOf Download DownloadIdle ≡ true
+unfolding allowedOf
+idle-free = refl
 
 -- the setup of a DNLOAD
 abbrev setupFor : ℕ → ℕ → Setup
