@@ -3,3 +3,4 @@ pub mod Page
 pub mod Image
 pub mod Card
 pub mod Pages
+pub mod Passes

@@ -97,7 +97,7 @@ options-stay n from count value card w w′ h l same i b =
     l .values-elsewhere (optionsFrom n + i) hi (inr past) ∙ same i b
 
 -- the next page is in place once its bytes are known
-placed-on : (n page : ℕ) (image card w w′ : List ℕ) → page < n → Learns n (page * pageBytes) pageBytes (λ i. getD (padded (pageOf image page)) (i - page * pageBytes) 0xFF) w w′ → Placed n image card page w → Placed n image card (suc page) w′
+pub placed-on : (n page : ℕ) (image card w w′ : List ℕ) → page < n → Learns n (page * pageBytes) pageBytes (λ i. getD (padded (pageOf image page)) (i - page * pageBytes) 0xFF) w w′ → Placed n image card page w → Placed n image card (suc page) w′
 placed-on n page image card w w′ h l p =
     let room : page * pageBytes + pageBytes ≤ flashBytes n = omega arith in
     record {

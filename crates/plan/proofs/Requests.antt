@@ -117,7 +117,7 @@ module _ (n p : ℕ) (w : List ℕ) where
   unfolding moves requestMoves setupOf decideOf requestOf inwardOf allowedOf statusMoves afterStatus reportOf
   busy-moves = refl
 
-  manifest-moves : moves n (resting ManifestSync p) w getStatus ≡ goes (resting Left p) w
+  pub manifest-moves : moves n (resting ManifestSync p) w getStatus ≡ goes (resting Left p) w
   unfolding moves requestMoves setupOf decideOf requestOf inwardOf allowedOf statusMoves afterStatus reportOf
   manifest-moves = refl
 
