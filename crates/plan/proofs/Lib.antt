@@ -4,3 +4,4 @@ pub mod Image
 pub mod Card
 pub mod Pages
 pub mod Passes
+pub mod Proper

@@ -53,7 +53,7 @@ unfolding allowedOf
 idle-free = refl
 
 -- the setup of a DNLOAD
-abbrev setupFor : ℕ → ℕ → Setup
+abbrev pub setupFor : ℕ → ℕ → Setup
 setupFor value count = record { kind = 0x21; code = 1; value = value; index = 0; length = count }
 
 -- numbers are read back from their bytes
@@ -73,7 +73,7 @@ four-back x h =
     let all : x % 65536 + x / 65536 * 65536 ≡ x = omega arith in
     rw top (joined (x % 256) (x / 256 % 256) (x / 65536 % 256) (x / 65536 / 256 % 256) (x % 65536) (x / 65536) x (low-back x) (two-back (x / 65536) high) all)
 
-download-setup : (value : ℕ) (xs : List ℕ) → value < 65536 → length xs < 65536 → setupOf (0x21 ∷ 1 ∷ (two value ++ (0 ∷ 0 ∷ (two (length xs) ++ xs)))) ≡ setupFor value (length xs)
+pub download-setup : (value : ℕ) (xs : List ℕ) → value < 65536 → length xs < 65536 → setupOf (0x21 ∷ 1 ∷ (two value ++ (0 ∷ 0 ∷ (two (length xs) ++ xs)))) ≡ setupFor value (length xs)
 unfolding setupOf
 download-setup value xs v l = ap₂ setupFor (two-back value v) (two-back (length xs) l)
 

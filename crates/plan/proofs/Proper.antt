@@ -1,0 +1,117 @@
+-- A plan's events have the data that their setups ask for, and hold bytes only: its text gives them back. Assumes nothing.
+use mathlib.Core.Path.{_≡_, refl, ap, _∙_, sym}
+use mathlib.Core.Bool.{Bool, true, false, cond, _&&_}
+use mathlib.Core.List.{List, [], _∷_, _++_}
+use Prim.Native.Nat.{ℕ, zero, suc, _+_, _*_, _/_, _%_, _≤_, _<_}
+use native.Mathlib.Omega.{arith}
+use lib.Dec.{eqb, ltb}
+use lib.ListN.{length, take, drop}
+use borrow.Author.Tests.{lt-ltb}
+use Rattle.laws.proofs.Split.{by-bool}
+use Rattle.board.specs.Layout.{pageBytes, flashFirst}
+use Rattle.request.specs.Setup.{setupOf, dataLength, fitsOf}
+use Rattle.hex.specs.Hex.{allBytes}
+use Rattle.job.specs.Event.{Event, request, fits, inBytes, proper}
+use Rattle.job.specs.Text.{eventsOf}
+use Rattle.job.proofs.Formed.{fits-if, bytes-append, bytes-take, bytes-drop}
+use Rattle.job.proofs.EventText.{text-events}
+use Rattle.cells.proofs.Events.{Fitting}
+use Rattle.cells.proofs.Runs.{AllFit}
+use Rattle.plan.specs.Plan.{two, four, download, getStatus, polled, pageAddress, erasePage, setPointer, padded, pageOf, leaving, pagesFrom, pagesOf, planEvents, planOf}
+use Rattle.plan.proofs.Requests.{setupFor, download-setup}
+use Rattle.plan.proofs.Image.{padded-most, page-most}
+
+download-fits : (value : ℕ) (xs : List ℕ) → value < 65536 → length xs < 65536 → Fitting (download value xs)
+unfolding dataLength
+download-fits value xs v l =
+    fits-if (0x21 ∷ 1 ∷ (two value ++ (0 ∷ 0 ∷ (two (length xs) ++ xs)))) (omega arith)
+    (let e : 8 + length xs ≡ 8 + dataLength (setupFor value (length xs)) = refl in
+    rw (download-setup value xs v l) (let z : suc (suc (suc (suc (suc (suc (suc (suc (length xs)))))))) ≡ 8 + length xs = omega arith in z ∙ e))
+
+status-fits : Fitting getStatus
+unfolding fitsOf setupOf dataLength
+status-fits = refl
+
+page-short : (image : List ℕ) (page : ℕ) → length (padded (pageOf image page)) < 65536
+page-short image page =
+    let h = padded-most (pageOf image page) (page-most image page) in
+    omega arith
+
+polled-fits : (e : Event) (es : List Event) → Fitting e → AllFit es → AllFit (polled e es)
+polled-fits e es f r = (f, (status-fits, (status-fits, r)))
+
+-- a command with its address
+addressed-fits : (code address : ℕ) → Fitting (download 0 (code ∷ four address))
+addressed-fits code address = download-fits 0 (code ∷ four address) (omega arith) (omega arith)
+
+leaving-fits : AllFit leaving
+leaving-fits =
+    polled-fits (setPointer flashFirst) (download 0 [] ∷ getStatus ∷ []) (addressed-fits 0x21 flashFirst) (download-fits 0 [] (omega arith) (omega arith), (status-fits, tt))
+
+pages-fit : (image : List ℕ) (count page : ℕ) → AllFit (pagesFrom image count page)
+unfolding pagesFrom
+pages-fit image zero page = leaving-fits
+pages-fit image (suc count) page =
+    let write : Event = download 2 (padded (pageOf image page)) in
+    let rest : List Event = pagesFrom image count (suc page) in
+    polled-fits (erasePage (pageAddress page)) (polled (setPointer (pageAddress page)) (polled write rest)) (addressed-fits 0x41 (pageAddress page))
+    (polled-fits (setPointer (pageAddress page)) (polled write rest) (addressed-fits 0x21 (pageAddress page))
+    (polled-fits write rest (download-fits 2 (padded (pageOf image page)) (omega arith) (page-short image page)) (pages-fit image count (suc page))))
+
+pub plan-fits : (image : List ℕ) → AllFit (planEvents image)
+unfolding planEvents
+plan-fits image = pages-fit image (pagesOf image) 0
+
+-- the bytes of a number are bytes
+byte-is : (x : ℕ) → ltb (x % 256) 256 ≡ true
+byte-is x = lt-ltb (x % 256) 256 (omega arith)
+
+download-bytes : (value : ℕ) (xs : List ℕ) → allBytes xs ≡ true → inBytes (download value xs) ≡ true
+unfolding inBytes allBytes
+download-bytes value xs y = rw (byte-is value, byte-is (value / 256), byte-is (length xs), byte-is (length xs / 256), y)
+
+addressed-bytes : (code address : ℕ) → ltb code 256 ≡ true → inBytes (download 0 (code ∷ four address)) ≡ true
+unfolding allBytes
+addressed-bytes code address c =
+    download-bytes 0 (code ∷ four address) (rw (c, byte-is address, byte-is (address / 256), byte-is (address / 65536), byte-is (address / 16777216)))
+
+page-bytes : (image : List ℕ) (page : ℕ) → allBytes image ≡ true → allBytes (padded (pageOf image page)) ≡ true
+unfolding allBytes
+page-bytes image page y =
+    let own : allBytes (pageOf image page) ≡ true = bytes-take pageBytes (drop (page * pageBytes) image) (bytes-drop (page * pageBytes) image y) in
+    by-bool (eqb (length (pageOf image page)) 1) (λ e. rw e (bytes-append (pageOf image page) (0xFF ∷ []) own refl)) (λ e. rw e own)
+
+proper-on : (e : Event) (es : List Event) → fits e ≡ true → inBytes e ≡ true → proper es ≡ true → proper (e ∷ es) ≡ true
+unfolding proper
+proper-on e es f y r = rw (f, y, r)
+
+status-proper : (es : List Event) → proper es ≡ true → proper (getStatus ∷ es) ≡ true
+unfolding fits inBytes allBytes
+status-proper es r = proper-on getStatus es status-fits refl r
+
+polled-proper : (value : ℕ) (xs : List ℕ) (es : List Event) → Fitting (download value xs) → inBytes (download value xs) ≡ true → proper es ≡ true → proper (polled (download value xs) es) ≡ true
+unfolding fits
+polled-proper value xs es f y r = proper-on (download value xs) (getStatus ∷ getStatus ∷ es) f y (status-proper (getStatus ∷ es) (status-proper es r))
+
+leaving-proper : proper leaving ≡ true
+unfolding fits allBytes proper
+leaving-proper =
+    polled-proper 0 (0x21 ∷ four flashFirst) (download 0 [] ∷ getStatus ∷ []) (addressed-fits 0x21 flashFirst) (addressed-bytes 0x21 flashFirst refl)
+    (proper-on (download 0 []) (getStatus ∷ []) (download-fits 0 [] (omega arith) (omega arith)) (download-bytes 0 [] refl) (status-proper [] refl))
+
+pages-proper : (image : List ℕ) (count page : ℕ) → allBytes image ≡ true → proper (pagesFrom image count page) ≡ true
+unfolding pagesFrom
+pages-proper image zero page y = leaving-proper
+pages-proper image (suc count) page y =
+    polled-proper 0 (0x41 ∷ four (pageAddress page)) _ (addressed-fits 0x41 (pageAddress page)) (addressed-bytes 0x41 (pageAddress page) refl)
+    (polled-proper 0 (0x21 ∷ four (pageAddress page)) _ (addressed-fits 0x21 (pageAddress page)) (addressed-bytes 0x21 (pageAddress page) refl)
+    (polled-proper 2 (padded (pageOf image page)) _ (download-fits 2 (padded (pageOf image page)) (omega arith) (page-short image page)) (download-bytes 2 (padded (pageOf image page)) (page-bytes image page y))
+    (pages-proper image count (suc page) y)))
+
+pub plan-proper : (image : List ℕ) → allBytes image ≡ true → proper (planEvents image) ≡ true
+unfolding planEvents
+plan-proper image y = pages-proper image (pagesOf image) 0 y
+
+pub plan-events : (image : List ℕ) → allBytes image ≡ true → eventsOf (planOf image) ≡ planEvents image
+unfolding planOf
+plan-events image y = text-events (planEvents image) (plan-proper image y)
