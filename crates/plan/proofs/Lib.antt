@@ -5,3 +5,5 @@ pub mod Card
 pub mod Pages
 pub mod Passes
 pub mod Proper
+pub mod Admitted
+pub mod Theorems
