@@ -50,8 +50,16 @@ supplied-parts n image card e =
     one : (k : ℕ) → (k ≡ 0 → ⊥) → 1 ≤ k
     one k z = omega arith
 
-pub planable-parts : (n : ℕ) (image card : List ℕ) → planable n image card ≡ admission.Admitted → Supplied n (length image) (length card) × (barred image card ≡ false)
-unfolding planable
-planable-parts n image card e =
-    let p = then-parts (supplied n (length image) (length card)) (cond (barred image card) (admission.Refused Protected) admission.Admitted) e in
-    (supplied-parts n (length image) (length card) (p .0), by-bool (barred image card) (λ b. refused-not _ (rw b at (p .1))) (λ b. b))
+module _ (n : ℕ) (image card : List ℕ) (e : planable n image card ≡ admission.Admitted) where
+  parts : (supplied n (length image) (length card) ≡ admission.Admitted) × (cond (barred image card) (admission.Refused Protected) admission.Admitted ≡ admission.Admitted)
+  unfolding planable
+  parts = then-parts (supplied n (length image) (length card)) (cond (barred image card) (admission.Refused Protected) admission.Admitted) e
+
+  pub planable-supplied : supplied n (length image) (length card) ≡ admission.Admitted
+  planable-supplied = parts .0
+
+  pub planable-lengths : Supplied n (length image) (length card)
+  planable-lengths = supplied-parts n (length image) (length card) (parts .0)
+
+  pub planable-free : barred image card ≡ false
+  planable-free = by-bool (barred image card) (λ b. refused-not _ (rw b at (parts .1))) (λ b. b)

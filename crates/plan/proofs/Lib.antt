@@ -6,4 +6,6 @@ pub mod Pages
 pub mod Passes
 pub mod Proper
 pub mod Admitted
+pub mod Longest
+pub mod Call
 pub mod Theorems

@@ -1,23 +1,25 @@
 -- The checker passes every plan: document 01, "The checker and the plan", its last paragraph. Assumes nothing.
-use mathlib.Core.Path.{_≡_, refl, ap, _∙_, sym}
+use mathlib.Core.Path.{_≡_}
 use mathlib.Core.Bool.{true, false}
 use mathlib.Core.List.{List}
-use Prim.Native.Nat.{ℕ, _*_, _≤_}
+use Prim.Native.Nat.{ℕ, _≤_}
 use native.Mathlib.Omega.{arith}
 use lib.ListN.{length, replicate, length-replicate}
 use Rattle.board.specs.Layout.{loggerPages, flashBytes, optionBytes}
 use Rattle.loader.specs.declared.Admission.the-variants as admission
 use Rattle.hex.specs.Hex.{allBytes}
-use Rattle.job.specs.Event.{Event, proper}
-use Rattle.job.specs.Text.{eventsOf}
+use Rattle.job.specs.Text.{limit, eventsOf}
+use Rattle.verdict.specs.declared.Verdict.{Verdict}
 use Rattle.verdict.specs.declared.Verdict.the-variants as verdict
 use Rattle.verdict.specs.Verdict.{Judged}
-use Rattle.verdict.specs.Checked.{workBytes}
+use Rattle.verdict.specs.Checked.{workBytes, Checked}
 use Rattle.cells.proofs.Judgement.{judged}
-use Rattle.plan.specs.Plan.{planEvents, planOf, barred, planable}
+use Rattle.plan.specs.Plan.{pagesOf, planEvents, planOf, barred, planable}
 use Rattle.plan.proofs.Passes.{plan-verdict}
-use Rattle.plan.proofs.Proper.{plan-fits, plan-proper, plan-events}
-use Rattle.plan.proofs.Admitted.{planable-parts}
+use Rattle.plan.proofs.Proper.{plan-fits, plan-events}
+use Rattle.plan.proofs.Admitted.{planable-supplied, planable-lengths, planable-free}
+use Rattle.plan.proofs.Longest.{plan-text}
+use Rattle.plan.proofs.Call.{pass-only, plan-checkable}
 
 -- The events of a plan pass, on every board of n pages with a card that does not bar the image.
 pub plan-passes : (n : ℕ) (image card : List ℕ) → 1 ≤ length image → length image ≤ flashBytes n → length card ≡ optionBytes → allBytes card ≡ true → barred image card ≡ false → Judged n (planEvents image) image card verdict.Pass
@@ -34,9 +36,18 @@ plan-text-passes n image card some most lc y bytes free = rw (plan-events image 
 -- What the plan writer does not refuse, the checker passes.
 pub planable-passes : (n : ℕ) (image card : List ℕ) → allBytes image ≡ true → allBytes card ≡ true → planable n image card ≡ admission.Admitted → Judged n (eventsOf (planOf image)) image card verdict.Pass
 planable-passes n image card y bytes e =
-    let p = planable-parts n image card e in
-    plan-text-passes n image card (p .0 .some) (p .0 .most) (p .0 .options) y bytes (p .1)
+    let s = planable-lengths n image card e in
+    plan-text-passes n image card (s .some) (s .most) (s .options) y bytes (planable-free n image card e)
 
--- The same of the logger.
-pub logger-plan-passes : (image card : List ℕ) → allBytes image ≡ true → allBytes card ≡ true → planable loggerPages image card ≡ admission.Admitted → Judged loggerPages (eventsOf (planOf image)) image card verdict.Pass
-logger-plan-passes image card = planable-passes loggerPages image card
+-- "The longest is 36,078 bytes"
+pub plan-longest : (image : List ℕ) → length image ≤ flashBytes loggerPages → length (planOf image) ≤ 36078
+plan-longest image h =
+    let pages : pagesOf image ≤ loggerPages = omega arith in
+    omega (arith, plan-text image)
+
+-- The logger's checker, given a text that its plan writer wrote and a work area of the right size, answers Pass: its promise allows nothing else.
+pub checker-passes : (image card w w′ : List ℕ) (v : Verdict) → allBytes image ≡ true → allBytes card ≡ true → planable loggerPages image card ≡ admission.Admitted → length w ≡ workBytes loggerPages → Checked loggerPages (planOf image) image card w v w′ → v ≡ verdict.Pass
+checker-passes image card w w′ v y bytes e lw c =
+    let short : length (planOf image) ≤ limit = omega (arith, plan-longest image (planable-lengths loggerPages image card e .most)) in
+    let admitted = plan-checkable loggerPages image card w y short (planable-supplied loggerPages image card e) lw in
+    pass-only loggerPages (eventsOf (planOf image)) image card v (planable-passes loggerPages image card y bytes e) (rw admitted at c)
