@@ -1,8 +1,8 @@
 -- What a card allows that does not bar an image. Assumes nothing.
-use mathlib.Core.Path.{_≡_, refl, ap, _∙_, sym}
-use mathlib.Core.Bool.{Bool, true, false, _&&_, _||_, true≢false}
+use mathlib.Core.Path.{_≡_, refl, _∙_, sym}
+use mathlib.Core.Bool.{Bool, true, false, _||_, true≢false}
 use mathlib.Core.List.{List, [], _∷_}
-use Prim.Native.Nat.{ℕ, zero, suc, _+_, _*_, _^_, _≤_, _<_}
+use Prim.Native.Nat.{ℕ, zero, suc, _+_, _*_, _^_, _<_}
 use native.Mathlib.Omega.{arith}
 use lib.Dec.{ltb}
 use lib.ListN.{getD}
@@ -17,17 +17,17 @@ pub or-false : (a b : Bool) → (a || b) ≡ false → (a ≡ false) × (b ≡ f
 or-false true b e = absurd (true≢false e)
 or-false false b e = (refl, e)
 
-pub byte-small : (xs : List ℕ) (i : ℕ) → allBytes xs ≡ true → getD xs i 0 < 256
+byte-at : (xs : List ℕ) (i : ℕ) → allBytes xs ≡ true → getD xs i 0 < 256
 unfolding allBytes
-byte-small [] i h = omega arith
-byte-small (x ∷ xs) zero h = ltb-true _ _ (and-true (ltb x 256) (allBytes xs) h .0)
-byte-small (x ∷ xs) (suc i) h = byte-small xs i (and-true (ltb x 256) (allBytes xs) h .1)
+byte-at [] i h = omega arith
+byte-at (x ∷ xs) zero h = ltb-true _ _ (and-true (ltb x 256) (allBytes xs) h .0)
+byte-at (x ∷ xs) (suc i) h = byte-at xs i (and-true (ltb x 256) (allBytes xs) h .1)
 
 word-small : (card : List ℕ) → allBytes card ≡ true → wordFrom 0 card < 2 ^ 32
 unfolding wordFrom
 word-small card bytes =
-    let a : getD card 8 0 < 256 = byte-small card 8 bytes in
-    let b : getD card 9 0 < 256 = byte-small card 9 bytes in
+    let a : getD card 8 0 < 256 = byte-at card 8 bytes in
+    let b : getD card 9 0 < 256 = byte-at card 9 bytes in
     let c : getD card 8 0 + getD card 9 0 * 256 < 4294967296 = omega arith in
     c
 

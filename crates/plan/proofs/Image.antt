@@ -1,11 +1,10 @@
 -- The bytes of an image's pages, and how many each page has. Assumes nothing.
-use mathlib.Core.Path.{_≡_, refl, ap, _∙_, sym}
-use mathlib.Core.Bool.{Bool, true, false, cond}
+use mathlib.Core.Path.{_≡_, refl, _∙_}
 use mathlib.Core.List.{List, [], _∷_, _++_}
-use Prim.Native.Nat.{ℕ, zero, suc, _+_, _-_, _*_, _/_, _≤_, _<_}
+use Prim.Native.Nat.{ℕ, zero, suc, _+_, _-_, _*_, _≤_, _<_}
 use native.Mathlib.Omega.{arith}
 use lib.Dec.{eqb}
-use lib.ListN.{length, take, drop, getD, length-append, length-drop}
+use lib.ListN.{length, drop, getD, length-append, length-drop}
 use lib.Seq.{getD-take, getD-drop, length-take-le, take-all}
 use borrow.Author.Tests.{eqb-true, eqb-false}
 use Rattle.laws.proofs.Bytes.{take-at-most}
@@ -51,7 +50,6 @@ page-most image page = take-at-most pageBytes (drop (page * pageBytes) image)
 -- a page below the count has a byte at least
 pub page-some : (image : List ℕ) (page : ℕ) → page < pagesOf image → 1 ≤ length (pageOf image page)
 page-some image page h =
-    let rest : List ℕ = drop (page * pageBytes) image in
     let l : length (drop (page * pageBytes) image) ≡ length image - page * pageBytes = length-drop (page * pageBytes) image in
     by-lt (length (drop (page * pageBytes) image)) pageBytes
     (λ a. let b : length (drop (page * pageBytes) image) ≤ pageBytes = omega arith in rw (take-all pageBytes (drop (page * pageBytes) image) b) (omega arith))

@@ -1,13 +1,13 @@
 -- How long a plan's text is. Assumes nothing.
-use mathlib.Core.Path.{_≡_, ap, _∙_}
+use mathlib.Core.Path.{_≡_, _∙_}
 use mathlib.Core.List.{List, [], _∷_, _++_}
-use Prim.Native.Nat.{ℕ, zero, suc, _+_, _-_, _*_, _/_, _≤_}
+use Prim.Native.Nat.{ℕ, zero, suc, _+_, _-_, _*_, _≤_}
 use native.Mathlib.Omega.{arith}
 use lib.ListN.{length, length-append}
 use Rattle.board.specs.Layout.{pageBytes, flashFirst}
-use Rattle.job.specs.Event.{Event, request, lineOf, textOf}
+use Rattle.job.specs.Event.{Event, lineOf, textOf}
 use Rattle.job.proofs.SpellSize.{line-length-of}
-use Rattle.plan.specs.Plan.{two, four, download, getStatus, polled, pageAddress, erasePage, setPointer, padded, pageOf, leaving, pagesFrom, pagesOf, planEvents, planOf}
+use Rattle.plan.specs.Plan.{two, four, download, getStatus, polled, pageAddress, setPointer, padded, pageOf, leaving, pagesFrom, pagesOf, planEvents, planOf}
 use Rattle.plan.proofs.Image.{padded-most, page-most}
 
 -- a line has 20 bytes and two for each byte of data

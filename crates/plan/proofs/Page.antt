@@ -1,13 +1,13 @@
 -- What is known of all boards once a page was erased and its bytes written. Assumes nothing.
 use mathlib.Core.Path.{_≡_, refl, ap, _∙_, sym}
-use mathlib.Core.Bool.{Bool, true, false, cond, _&&_}
-use mathlib.Core.Logic.{_⊎_, inl, inr, ⊎-elim}
+use mathlib.Core.Bool.{true, false}
+use mathlib.Core.Logic.{inl, inr, ⊎-elim}
 use mathlib.Core.List.{List, [], _∷_}
-use Prim.Native.Nat.{ℕ, zero, suc, _+_, _-_, _*_, _/_, _≤_, _<_}
+use Prim.Native.Nat.{ℕ, zero, suc, _+_, _-_, _*_, _≤_, _<_}
 use native.Mathlib.Omega.{arith}
 use native.Mathlib.Nat.{not-suc-le-zero, le-of-suc-le-suc}
 use lib.Dec.{eqb}
-use lib.ListN.{length, take, drop, getD, replicate, length-replicate, getD-replicate, length-drop, List·getD-eq-default}
+use lib.ListN.{length, drop, getD, replicate, length-replicate, getD-replicate, length-drop, List·getD-eq-default}
 use lib.Seq.{getD-drop}
 use borrow.Author.Tests.{eqb-true}
 use Rattle.laws.specs.Bytes.{put}
@@ -15,7 +15,7 @@ use Rattle.laws.proofs.Bytes.{put-length}
 use Rattle.laws.proofs.Append.{part-put}
 use Rattle.laws.proofs.Places.{put-before}
 use Rattle.laws.proofs.Split.{by-lt}
-use Rattle.board.specs.Layout.{pageBytes, flashBytes, memoryBytes}
+use Rattle.board.specs.Layout.{pageBytes, memoryBytes}
 use Rattle.board.specs.Protection.{writeProtected}
 use Rattle.request.specs.Request.{transferBytes}
 use Rattle.memory.specs.Flash.{kept, each, blank, stored}
@@ -35,7 +35,6 @@ pub record Learns (n from count : ℕ) (value : ℕ → ℕ) (w w′ : List ℕ)
 -- equal bytes, learnt
 fill-learns : (n from count v : ℕ) (w : List ℕ) → from + count ≤ memoryBytes n → length w ≡ workBytes n → Learns n from count (λ i. v) w (learnt n from (replicate count v) w)
 fill-learns n from count v w h l =
-    let xs : List ℕ = replicate count v in
     let c : length (replicate count v) ≡ count = length-replicate {A = ℕ} count v in
     let room : from + length (replicate count v) ≤ memoryBytes n = omega arith in
     record {

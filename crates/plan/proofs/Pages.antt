@@ -1,16 +1,16 @@
 -- After each page of a plan: its pages and those before it are known, and no others. Assumes nothing.
 use mathlib.Core.Path.{_≡_, refl, ap, ap₂, _∙_, sym}
-use mathlib.Core.Bool.{Bool, true, false, not, cond}
-use mathlib.Core.Logic.{_⊎_, inl, inr}
-use mathlib.Core.List.{List, [], _∷_}
-use Prim.Native.Nat.{ℕ, zero, suc, _+_, _-_, _*_, _/_, _≤_, _<_}
+use mathlib.Core.Bool.{true, false, not}
+use mathlib.Core.Logic.{inl, inr}
+use mathlib.Core.List.{List}
+use Prim.Native.Nat.{ℕ, suc, _+_, _-_, _*_, _/_, _≤_, _<_}
 use native.Mathlib.Omega.{arith}
 use lib.Dec.{eqb, ltb}
-use lib.ListN.{length, drop, getD}
+use lib.ListN.{length, getD}
 use lib.Seq.{getD-drop}
 use Rattle.laws.specs.Bytes.{put}
 use Rattle.laws.proofs.Split.{by-bool, by-lt}
-use Rattle.board.specs.Layout.{pageBytes, flashFirst, flashBytes, optionsFrom, optionBytes, memoryBytes}
+use Rattle.board.specs.Layout.{pageBytes, flashBytes, optionsFrom, optionBytes, memoryBytes}
 use Rattle.board.specs.Protection.{readProtected, wordOf, lockedFrom, wordFrom, writeProtected}
 use Rattle.request.specs.Request.{transferBytes}
 use Rattle.request.specs.declared.Request.the-variants.{Download}
@@ -21,22 +21,23 @@ use Rattle.device.specs.Table.{allowedOf}
 use Rattle.hex.specs.Hex.{allBytes}
 use Rattle.memory.specs.Flash.{kept, stored}
 use Rattle.job.specs.Event.{Event}
-use Rattle.verdict.specs.World.{World, Fresh}
+use Rattle.verdict.specs.World.{Fresh}
 use Rattle.verdict.specs.Checked.{workBytes}
-use Rattle.cells.specs.Cells.{blockFrom, known, surely, pageErased, blockOf, begun, overOf}
-use Rattle.cells.proofs.Learnt.{Outside}
-use Rattle.cells.proofs.Likeness.{cellOf}
+use Rattle.cells.specs.Cells.{blockFrom, known, pageErased, begun, overOf}
 use Rattle.cells.proofs.Boards.{fresh-alike, plain, plain-fresh, plain-byte}
-use Rattle.plan.specs.Plan.{pageAddress, padded, pageOf, polled, erasePage, setPointer, download, pagesOf}
+use Rattle.plan.specs.Plan.{pageAddress, padded, pageOf, polled, erasePage, setPointer, download}
 use Rattle.plan.proofs.Requests.{resting, idle-free, pointer-polled, erase-polled, write-polled}
 use Rattle.plan.proofs.Page.{Learns, erase-learns, block-learns, block-is, white-surely, store-learns}
-use Rattle.plan.proofs.Image.{page-at, padded-two, padded-most, page-most, page-some}
-use Rattle.plan.proofs.Card.{free-page-small}
+use Rattle.plan.proofs.Image.{page-at}
+
+-- the options that are known are the card
+abbrev pub HasCard : ℕ → List ℕ → List ℕ → Type 0
+HasCard n card w = (i : ℕ) → i < optionBytes → getD w (optionsFrom n + i) 0 ≡ getD card i 0
 
 -- the image's first p pages are in place on every board, and the other pages are each board's own
 pub record Placed (n : ℕ) (image card : List ℕ) (p : ℕ) (w : List ℕ) : Type 0 where
   pub size : length w ≡ workBytes n
-  pub options : (i : ℕ) → i < optionBytes → getD w (optionsFrom n + i) 0 ≡ getD card i 0
+  pub options : HasCard n card w
   pub values : (f : ℕ) → f < p * pageBytes → getD w f 0 ≡ getD image f 0xFF
   pub knows : (f : ℕ) → f < p * pageBytes → known n w f ≡ true
   pub own : (f : ℕ) → p * pageBytes ≤ f → f < flashBytes n → known n w f ≡ false
@@ -58,7 +59,7 @@ module _ (n : ℕ) (image card w : List ℕ) (lw : length w ≡ workBytes n) (lc
       (λ k. let z : _≡_ {A = ℕ} 0 1 = sym (known-all 0 refl f h k) ∙ known-all 1 refl f h k in absurd (omega arith))
       (λ k. k)
 
-  begun-options : (i : ℕ) → i < optionBytes → getD (begun n card w) (optionsFrom n + i) 0 ≡ getD card i 0
+  begun-options : HasCard n card (begun n card w)
   begun-options i h =
       let alike = fresh-alike n card w lw lc (plain n card 0) (fresh 0 refl) in
       let lo : optionsFrom n ≤ optionsFrom n + i = omega arith in
@@ -78,19 +79,19 @@ module _ (n : ℕ) (image card w : List ℕ) (lw : length w ≡ workBytes n) (lc
       }
 
 -- what the options protect is what the card protects
-module _ (n : ℕ) (card w : List ℕ) (same : (i : ℕ) → i < optionBytes → getD w (optionsFrom n + i) 0 ≡ getD card i 0) where
-  pub card-word : wordOf n w ≡ wordFrom 0 card
+module _ (n : ℕ) (card w : List ℕ) (same : HasCard n card w) where
+  card-word : wordOf n w ≡ wordFrom 0 card
   unfolding wordOf wordFrom
   card-word = ap₂ (λ (a b : ℕ). a + b * 256) (same 8 (omega arith)) (same 9 (omega arith))
 
-  pub card-locked : readProtected n w ≡ lockedFrom 0 card
+  card-locked : readProtected n w ≡ lockedFrom 0 card
   unfolding readProtected lockedFrom
   card-locked =
       let z : optionsFrom n ≡ optionsFrom n + 0 = omega arith in
       ap (λ (k : ℕ). not (eqb k 0xAA)) (ap (λ (i : ℕ). getD w i 0) z ∙ same 0 (omega arith))
 
 -- the options stay where a part of flash is learnt
-options-stay : (n from count : ℕ) (value : ℕ → ℕ) (card w w′ : List ℕ) → from + count ≤ flashBytes n → Learns n from count value w w′ → ((i : ℕ) → i < optionBytes → getD w (optionsFrom n + i) 0 ≡ getD card i 0) → (i : ℕ) → i < optionBytes → getD w′ (optionsFrom n + i) 0 ≡ getD card i 0
+options-stay : (n from count : ℕ) (value : ℕ → ℕ) (card w w′ : List ℕ) → from + count ≤ flashBytes n → Learns n from count value w w′ → HasCard n card w → HasCard n card w′
 options-stay n from count value card w w′ h l same i b =
     let hi : optionsFrom n + i < memoryBytes n = omega arith in
     let past : from + count ≤ optionsFrom n + i = omega arith in
@@ -124,7 +125,7 @@ unfoldable pub pageWritten : ℕ → ℕ → ℕ → List ℕ → List ℕ → L
 pageWritten n word page xs w = stored word (page * pageBytes) xs (put (blockFrom n) xs (pageErased n word page w))
 
 -- the events of one page, on a card that leaves it open
-module _ (n page word : ℕ) (xs card w : List ℕ) (size : length w ≡ workBytes n) (same : (i : ℕ) → i < optionBytes → getD w (optionsFrom n + i) 0 ≡ getD card i 0) (is : word ≡ wordFrom 0 card) (unlocked : lockedFrom 0 card ≡ false) (free : writeProtected word page ≡ false) (inside : page < n) (two : 2 ≤ length xs) (most : length xs ≤ pageBytes) where
+module _ (n page word : ℕ) (xs card w : List ℕ) (size : length w ≡ workBytes n) (same : HasCard n card w) (is : word ≡ wordFrom 0 card) (unlocked : lockedFrom 0 card ≡ false) (free : writeProtected word page ≡ false) (inside : page < n) (two : 2 ≤ length xs) (most : length xs ≤ pageBytes) where
   room : page * pageBytes + pageBytes ≤ flashBytes n
   room = omega arith
 
@@ -145,9 +146,9 @@ module _ (n page word : ℕ) (xs card w : List ℕ) (size : length w ≡ workByt
   written-learns =
       store-learns n word (page * pageBytes) pageBytes xs w (put (blockFrom n) xs (pageErased n word page w)) most (omega (arith, room)) free-there blocked
 
-  pub page-polled : (es : List Event) (mode : Mode) (pointer k : ℕ) → isMode 0 mode ≡ false → allowedOf Download mode ≡ true → pageAddress page < 4294967296 → overOf n (polled (erasePage (pageAddress page)) (polled (setPointer (pageAddress page)) (polled (download 2 xs) es))) (resting mode pointer) w k ≡ overOf n es (resting DownloadIdle (pageAddress page)) (pageWritten n word page xs w) (suc (suc (suc (suc (suc (suc (suc (suc (suc k)))))))))
+  pub page-polled : (es : List Event) (mode : Mode) (pointer k : ℕ) → isMode 0 mode ≡ false → allowedOf Download mode ≡ true → pageAddress page < 0x100000000 → overOf n (polled (erasePage (pageAddress page)) (polled (setPointer (pageAddress page)) (polled (download 2 xs) es))) (resting mode pointer) w k ≡ overOf n es (resting DownloadIdle (pageAddress page)) (pageWritten n word page xs w) (suc (suc (suc (suc (suc (suc (suc (suc (suc k)))))))))
   unfolding pageWritten
-  page-polled es mode pointer k heard open₁ short =
+  page-polled es mode pointer k heard ready short =
       let w₁ : List ℕ = pageErased n word page w in
       let w₂ : List ℕ = put (blockFrom n) xs w₁ in
       let es₂ : List Event = polled (download 2 xs) es in
@@ -158,6 +159,6 @@ module _ (n page word : ℕ) (xs card w : List ℕ) (size : length w ≡ workByt
       let same₂ = options-stay n (page * pageBytes) pageBytes (λ i. 0xFF) card w w₂ room blocked same in
       let word₁ : wordOf n w ≡ word = card-word n card w same ∙ sym is in
       let word₂ : wordOf n w₂ ≡ word = card-word n card w₂ same₂ ∙ sym is in
-      rw word₁ at (erase-polled n es₁ mode heard open₁ page pointer w k inside short (card-locked n card w same ∙ unlocked))
+      rw word₁ at (erase-polled n es₁ mode heard ready page pointer w k inside short (card-locked n card w same ∙ unlocked))
       ∙ pointer-polled n es₂ DownloadIdle refl idle-free (page * pageBytes) pointer w₁ (suc (suc (suc k))) first short
       ∙ rw word₂ at (write-polled n es DownloadIdle refl idle-free (page * pageBytes) xs w₁ w₂ (suc (suc (suc (suc (suc (suc k)))))) two small last refl (card-locked n card w₂ same₂ ∙ unlocked) (block-is n xs w₁ (erased .size)) (white-surely n (wordOf n w₂) (page * pageBytes) (length xs) pageBytes w w₂ most (omega (arith, room)) blocked))

@@ -2,9 +2,8 @@
 use mathlib.Core.Path.{_≡_, refl, ap, _∙_, sym}
 use mathlib.Core.Bool.{Bool, true, false}
 use mathlib.Core.List.{List, [], _∷_}
-use Prim.Native.Nat.{ℕ, zero, suc, _+_, _-_, _*_, _/_, _≤_, _<_}
+use Prim.Native.Nat.{ℕ, zero, suc, _+_, _*_, _≤_, _<_}
 use native.Mathlib.Omega.{arith}
-use lib.Dec.{eqb}
 use lib.ListN.{length, take, drop, getD, length-drop, List·getD-eq-default}
 use lib.Seq.{ext-getD, getD-take, getD-drop, length-take-le}
 use borrow.Author.Tests.{eq-eqb, lt-ltb, le-ltb}
@@ -16,14 +15,12 @@ use Rattle.device.specs.declared.Mode.{Mode}
 use Rattle.device.specs.declared.Mode.the-variants.{Idle, DownloadIdle, ManifestSync, Left}
 use Rattle.device.specs.Wire.{isMode}
 use Rattle.device.specs.Table.{allowedOf}
-use Rattle.device.specs.State.{started}
 use Rattle.hex.specs.Hex.{allBytes}
-use Rattle.job.specs.Event.{Event, same}
 use Rattle.job.proofs.FirstLine.{same-refl}
 use Rattle.verdict.specs.declared.Verdict.the-variants as verdict
 use Rattle.verdict.specs.Verdict.{pagesEnd}
 use Rattle.verdict.specs.Checked.{workBytes}
-use Rattle.cells.specs.Cells.{begun, ended, overOf, suspect, lowestFrom, endVerdict, overVerdict, verdictOf}
+use Rattle.cells.specs.Cells.{begun, Over, ended, overOf, suspect, lowestFrom, endVerdict, overVerdict, verdictOf}
 use Rattle.plan.specs.Plan.{pageAddress, padded, pageOf, getStatus, download, leaving, pagesFrom, pagesOf, planEvents, anyProtected, barred}
 use Rattle.plan.proofs.Requests.{resting, start-free, idle-free, over-on, leave-moves, manifest-moves, pointer-polled}
 use Rattle.plan.proofs.Page.{default-same}
@@ -40,27 +37,36 @@ leaving-over n mode p w k some heard free =
     ∙ over-on n (download 0 []) (getStatus ∷ []) (resting DownloadIdle flashFirst) (resting ManifestSync flashFirst) w w (suc (suc (suc k))) (leave-moves n DownloadIdle flashFirst w refl idle-free)
     ∙ over-on n getStatus [] (resting ManifestSync flashFirst) (resting Left flashFirst) w w (suc (suc (suc (suc k)))) (manifest-moves n flashFirst w)
 
+-- a run that ends with the image in place
+record Arrives (n : ℕ) (image card : List ℕ) (over : Over) : Type 0 where
+  work : List ℕ
+  placed : Placed n image card (pagesOf image) work
+  ends : over ≡ ended (resting Left flashFirst) work
+
+arrives-from : (n : ℕ) (image card : List ℕ) (over next : Over) → over ≡ next → Arrives n image card next → Arrives n image card over
+arrives-from n image card over next e r = record { work = r .work; placed = r .placed; ends = e ∙ r .ends }
+
 -- the rest of a plan, from `page` on
 module _ (n : ℕ) (image card : List ℕ) (some : 1 ≤ n) (bytes : allBytes card ≡ true) (unlocked : lockedFrom 0 card ≡ false) (within : length image ≤ flashBytes n) where
-  pages-over : (count page : ℕ) (mode : Mode) (p : ℕ) (w : List ℕ) (k : ℕ) → isMode 0 mode ≡ false → allowedOf Download mode ≡ true → page + count ≡ pagesOf image → anyProtected (wordFrom 0 card) count page ≡ false → Placed n image card page w → (w′ : List ℕ) × Placed n image card (pagesOf image) w′ × (overOf n (pagesFrom image count page) (resting mode p) w k ≡ ended (resting Left flashFirst) w′)
+  pages-over : (count page : ℕ) (mode : Mode) (p : ℕ) (w : List ℕ) (k : ℕ) → isMode 0 mode ≡ false → allowedOf Download mode ≡ true → page + count ≡ pagesOf image → anyProtected (wordFrom 0 card) count page ≡ false → Placed n image card page w → Arrives n image card (overOf n (pagesFrom image count page) (resting mode p) w k)
   unfolding pagesFrom
-  pages-over zero page mode p w k heard free all open₁ placed =
+  pages-over zero page mode p w k heard free all unbarred placed =
       let e : page ≡ pagesOf image = omega arith in
-      (w, rw e at placed, leaving-over n mode p w k some heard free)
-  pages-over (suc count) page mode p w k heard free all open₁ placed =
+      record { work = w; placed = rw e at placed; ends = leaving-over n mode p w k some heard free }
+  pages-over (suc count) page mode p w k heard free all unbarred placed =
       let word : ℕ = wordFrom 0 card in
       let xs : List ℕ = padded (pageOf image page) in
-      let parts = protected-parts word count page open₁ in
+      let parts = protected-parts word count page unbarred in
       let below : page < pagesOf image = omega arith in
       let inside : page < n = omega arith in
       let few : page < 32 = free-page-small card page bytes (parts .0) in
-      let short : pageAddress page < 4294967296 = omega arith in
+      let short : pageAddress page < 0x100000000 = omega arith in
       let two : 2 ≤ length xs = padded-two (pageOf image page) (page-some image page below) in
       let most : length xs ≤ pageBytes = padded-most (pageOf image page) (page-most image page) in
       let learns = written-learns n page word xs card w (placed .size) (placed .options) refl unlocked (parts .0) inside two most in
-      let step = page-polled n page word xs card w (placed .size) (placed .options) refl unlocked (parts .0) inside two most (pagesFrom image count (suc page)) mode p k heard free short in
-      let rest = pages-over count (suc page) DownloadIdle (pageAddress page) (pageWritten n word page xs w) (suc (suc (suc (suc (suc (suc (suc (suc (suc k))))))))) refl idle-free (omega arith) (parts .1) (placed-on n page image card w (pageWritten n word page xs w) inside learns placed) in
-      (rest .0, rest .1, step ∙ rest .2)
+      arrives-from n image card _ _
+      (page-polled n page word xs card w (placed .size) (placed .options) refl unlocked (parts .0) inside two most (pagesFrom image count (suc page)) mode p k heard free short)
+      (pages-over count (suc page) DownloadIdle (pageAddress page) (pageWritten n word page xs w) (suc (suc (suc (suc (suc (suc (suc (suc (suc k))))))))) refl idle-free (omega arith) (parts .1) (placed-on n page image card w (pageWritten n word page xs w) inside learns placed))
 
 -- no number passes the test
 lowest-none : (test : ℕ → Bool) (count i : ℕ) → ((j : ℕ) → i ≤ j → j < i + count → test j ≡ false) → lowestFrom test count i ≡ i + count
@@ -102,8 +108,8 @@ module _ (n : ℕ) (image card w : List ℕ) (lc : length card ≡ optionBytes) 
 
 pub plan-verdict : (n : ℕ) (image card w : List ℕ) → 1 ≤ n → length w ≡ workBytes n → length image ≤ flashBytes n → length card ≡ optionBytes → allBytes card ≡ true → barred image card ≡ false → verdictOf n (planEvents image) image card w ≡ verdict.Pass
 unfolding verdictOf planEvents
-plan-verdict n image card w some lw li lc bytes open₁ =
-    let parts = barred-parts image card open₁ in
+plan-verdict n image card w some lw li lc bytes unbarred =
+    let parts = barred-parts image card unbarred in
     let all : 0 + pagesOf image ≡ pagesOf image = omega arith in
     let run = pages-over n image card some bytes (parts .0) li (pagesOf image) 0 Idle flashFirst (begun n card w) 0 refl start-free all (parts .1) (begun-placed n image card w lw lc bytes) in
-    ap (overVerdict n image card) (run .2) ∙ placed-passes n image card (run .0) lc (run .1)
+    ap (overVerdict n image card) (run .ends) ∙ placed-passes n image card (run .work) lc (run .placed)

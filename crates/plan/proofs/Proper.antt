@@ -1,17 +1,17 @@
 -- A plan's events have the data that their setups ask for, and hold bytes only: its text gives them back. Assumes nothing.
-use mathlib.Core.Path.{_≡_, refl, ap, _∙_, sym}
-use mathlib.Core.Bool.{Bool, true, false, cond, _&&_}
+use mathlib.Core.Path.{_≡_, refl, _∙_}
+use mathlib.Core.Bool.{true}
 use mathlib.Core.List.{List, [], _∷_, _++_}
-use Prim.Native.Nat.{ℕ, zero, suc, _+_, _*_, _/_, _%_, _≤_, _<_}
+use Prim.Native.Nat.{ℕ, zero, suc, _+_, _*_, _/_, _%_, _<_}
 use native.Mathlib.Omega.{arith}
 use lib.Dec.{eqb, ltb}
-use lib.ListN.{length, take, drop}
+use lib.ListN.{length, drop}
 use borrow.Author.Tests.{lt-ltb}
 use Rattle.laws.proofs.Split.{by-bool}
 use Rattle.board.specs.Layout.{pageBytes, flashFirst}
 use Rattle.request.specs.Setup.{setupOf, dataLength, fitsOf}
 use Rattle.hex.specs.Hex.{allBytes}
-use Rattle.job.specs.Event.{Event, request, fits, inBytes, proper}
+use Rattle.job.specs.Event.{Event, fits, inBytes, proper}
 use Rattle.job.specs.Text.{eventsOf}
 use Rattle.job.proofs.Formed.{fits-if, bytes-append, bytes-take, bytes-drop}
 use Rattle.job.proofs.EventText.{text-events}

@@ -1,11 +1,10 @@
 -- What the requests of a plan do to all boards, each followed by its two GETSTATUS. Assumes nothing.
-use mathlib.Core.Path.{_≡_, refl, ap, ap₂, _∙_, sym}
-use mathlib.Core.Bool.{Bool, true, false, cond}
+use mathlib.Core.Path.{_≡_, refl, ap, ap₂, _∙_}
+use mathlib.Core.Bool.{true, false}
 use mathlib.Core.List.{List, [], _∷_, _++_}
-use Prim.Native.Nat.{ℕ, zero, suc, _+_, _-_, _*_, _/_, _%_, _≤_, _<_}
+use Prim.Native.Nat.{ℕ, suc, _+_, _-_, _*_, _/_, _%_, _≤_, _<_}
 use native.Mathlib.Omega.{arith}
-use lib.Dec.{eqb, leb}
-use lib.ListN.{length, drop, getD}
+use lib.ListN.{length}
 use borrow.Author.Tests.{le-leb, le-ltb, ne-eqb}
 use Rattle.laws.specs.Bytes.{put}
 use Rattle.board.specs.declared.Place.the-variants.{Flash}
@@ -14,7 +13,7 @@ use Rattle.board.specs.Protection.{readProtected, wordOf}
 use Rattle.board.specs.Span.{placeOf}
 use Rattle.board.proofs.Span.{spans-room, place-flash}
 use Rattle.request.specs.declared.Setup.{Setup}
-use Rattle.request.specs.declared.Request.the-variants.{Download, GetStatus}
+use Rattle.request.specs.declared.Request.the-variants.{Download}
 use Rattle.request.specs.Setup.{setupOf}
 use Rattle.request.specs.Request.{transferBytes, requestOf, outwardOf, inwardOf}
 use Rattle.device.specs.declared.Mode.{Mode}
@@ -33,7 +32,7 @@ use Rattle.action.specs.Access.{accessOf, blockAddress}
 use Rattle.action.specs.Action.{actionIn, actionOf, movedOf, rebootsOf}
 use Rattle.memory.specs.Flash.{stored}
 use Rattle.job.specs.Event.{Event}
-use Rattle.cells.specs.Cells.{blockFrom, blockOf, surely, pageErased, worked, workedOf, goes, statusMoves, decisionMoves, requestMoves, moves, Over, overOf}
+use Rattle.cells.specs.Cells.{blockFrom, blockOf, surely, pageErased, worked, workedOf, goes, statusMoves, decisionMoves, requestMoves, moves, overOf}
 use Rattle.plan.specs.Plan.{two, four, download, getStatus, polled, pageAddress, erasePage, setPointer}
 
 -- a device with nothing pending, and one that waits to run a command
@@ -56,7 +55,7 @@ idle-free = refl
 abbrev pub setupFor : ℕ → ℕ → Setup
 setupFor value count = record { kind = 0x21; code = 1; value = value; index = 0; length = count }
 
--- numbers are read back from their bytes
+-- numbers are read back from their bytes, low byte first
 low-back : (x : ℕ) → x % 256 + x / 256 % 256 * 256 ≡ x % 65536
 low-back x = omega arith
 
@@ -66,7 +65,7 @@ two-back x h = low-back x ∙ (let e : x % 65536 ≡ x = omega arith in e)
 joined : (a b c d low high x : ℕ) → a + b * 256 ≡ low → c + d * 256 ≡ high → low + high * 65536 ≡ x → a + b * 256 + c * 65536 + d * 16777216 ≡ x
 joined a b c d low high x p q r = omega arith
 
-four-back : (x : ℕ) → x < 4294967296 → x % 256 + x / 256 % 256 * 0x100 + x / 65536 % 256 * 0x10000 + x / 16777216 % 256 * 0x1000000 ≡ x
+four-back : (x : ℕ) → x < 0x100000000 → x % 256 + x / 256 % 256 * 0x100 + x / 65536 % 256 * 0x10000 + x / 16777216 % 256 * 0x1000000 ≡ x
 four-back x h =
     let high : x / 65536 < 65536 = omega arith in
     let top : x / 16777216 ≡ x / 65536 / 256 = omega arith in
@@ -78,10 +77,11 @@ unfolding setupOf
 download-setup value xs v l = ap₂ setupFor (two-back value v) (two-back (length xs) l)
 
 -- a command and its address
-address-read : (code address : ℕ) → address < 4294967296 → commandOf (code ∷ four address) ≡ record { code = code; address = address }
+address-read : (code address : ℕ) → address < 0x100000000 → commandOf (code ∷ four address) ≡ record { code = code; address = address }
 unfolding commandOf
 address-read code address h = rw (four-back address h)
 
+-- DNLOAD in one of those modes, with the pointer at p
 module _ (n : ℕ) (mode : Mode) (p : ℕ) (w : List ℕ) (heard : isMode 0 mode ≡ false) (free : allowedOf Download mode ≡ true) where
   download-moves : (value : ℕ) (xs : List ℕ) → value < 65536 → length xs ≤ transferBytes → moves n (resting mode p) w (download value xs) ≡ decisionMoves (downloadOf (resting mode p) (setupFor value (length xs)) (commandOf xs)) n (resting mode p) (setupFor value (length xs)) xs w
   unfolding moves requestMoves decideOf requestOf outwardOf
@@ -89,15 +89,15 @@ module _ (n : ℕ) (mode : Mode) (p : ℕ) (w : List ℕ) (heard : isMode 0 mode
       let l′ : length xs < 65536 = omega arith in
       rw (download-setup value xs v l′, heard, le-leb (length xs) transferBytes l, free)
 
-  pub pointer-moves : (address : ℕ) → address < 4294967296 → moves n (resting mode p) w (setPointer address) ≡ goes (waiting (SetPointer address) p) w
+  pointer-moves : (address : ℕ) → address < 0x100000000 → moves n (resting mode p) w (setPointer address) ≡ goes (waiting (SetPointer address) p) w
   unfolding downloadOf commandedOf
   pointer-moves address h = download-moves 0 (0x21 ∷ four address) (omega arith) (omega arith) ∙ rw (address-read 0x21 address h)
 
-  pub erase-moves : (address : ℕ) → address < 4294967296 → moves n (resting mode p) w (erasePage address) ≡ goes (waiting (ErasePage address) p) w
+  erase-moves : (address : ℕ) → address < 0x100000000 → moves n (resting mode p) w (erasePage address) ≡ goes (waiting (ErasePage address) p) w
   unfolding downloadOf commandedOf
   erase-moves address h = download-moves 0 (0x41 ∷ four address) (omega arith) (omega arith) ∙ rw (address-read 0x41 address h)
 
-  pub write-moves : (xs : List ℕ) → 1 ≤ length xs → length xs ≤ transferBytes → moves n (resting mode p) w (download 2 xs) ≡ goes (waiting (Write 2 (length xs)) p) (put (blockFrom n) xs w)
+  write-moves : (xs : List ℕ) → 1 ≤ length xs → length xs ≤ transferBytes → moves n (resting mode p) w (download 2 xs) ≡ goes (waiting (Write 2 (length xs)) p) (put (blockFrom n) xs w)
   unfolding downloadOf
   write-moves xs a b =
       let some : length xs ≡ 0 → ⊥ = λ e. omega arith in
@@ -133,7 +133,7 @@ polled-on n e es mode p w w₁ w₂ pending action k m a r v =
     ∙ over-on n getStatus (getStatus ∷ es) (waiting pending p) (resting DownloadBusy (movedOf action p)) w₁ w₂ (suc k) (sync-moves n p w₁ pending action w₂ a r v)
     ∙ over-on n getStatus es (resting DownloadBusy (movedOf action p)) (resting DownloadIdle (movedOf action p)) w₂ w₂ (suc (suc k)) (busy-moves n (movedOf action p) w₂)
 
--- a span of flash
+-- a span of flash lies there
 place-at : (n at count : ℕ) → at + count ≤ flashBytes n → placeOf n (flashFirst + at) count ≡ Flash at
 place-at n at count h =
     let low : flashFirst ≤ flashFirst + at = omega arith in
@@ -142,14 +142,15 @@ place-at n at count h =
     let room : count ≤ flashBytes n - (flashFirst + at - flashFirst) = omega arith in
     place-flash n (flashBytes n) (flashFirst + at) count refl (spans-room flashFirst (flashBytes n) (flashFirst + at) count low near ∙ le-leb count (flashBytes n - (flashFirst + at - flashFirst)) room) ∙ ap Flash back
 
+-- the three commands, each with its two GETSTATUS
 module _ (n : ℕ) (es : List Event) (mode : Mode) (heard : isMode 0 mode ≡ false) (free : allowedOf Download mode ≡ true) where
-  pub pointer-polled : (at p : ℕ) (w : List ℕ) (k : ℕ) → at < flashBytes n → flashFirst + at < 4294967296 → overOf n (polled (setPointer (flashFirst + at)) es) (resting mode p) w k ≡ overOf n es (resting DownloadIdle (flashFirst + at)) w (suc (suc (suc k)))
+  pub pointer-polled : (at p : ℕ) (w : List ℕ) (k : ℕ) → at < flashBytes n → flashFirst + at < 0x100000000 → overOf n (polled (setPointer (flashFirst + at)) es) (resting mode p) w k ≡ overOf n es (resting DownloadIdle (flashFirst + at)) w (suc (suc (suc k)))
   unfolding inRegion
   pointer-polled at p w k h a =
       let one : at + 1 ≤ flashBytes n = omega arith in
       polled-on n (setPointer (flashFirst + at)) es mode p w w w (SetPointer (flashFirst + at)) (Point (flashFirst + at)) k (pointer-moves n mode p w heard free (flashFirst + at) a) (rw (place-at n at 1 one)) refl refl
 
-  pub erase-polled : (page p : ℕ) (w : List ℕ) (k : ℕ) → page < n → pageAddress page < 4294967296 → readProtected n w ≡ false → overOf n (polled (erasePage (pageAddress page)) es) (resting mode p) w k ≡ overOf n es (resting DownloadIdle p) (pageErased n (wordOf n w) page w) (suc (suc (suc k)))
+  pub erase-polled : (page p : ℕ) (w : List ℕ) (k : ℕ) → page < n → pageAddress page < 0x100000000 → readProtected n w ≡ false → overOf n (polled (erasePage (pageAddress page)) es) (resting mode p) w k ≡ overOf n es (resting DownloadIdle p) (pageErased n (wordOf n w) page w) (suc (suc (suc k)))
   erase-polled page p w k h a r =
       let one : page * pageBytes + 1 ≤ flashBytes n = omega arith in
       let back : page * pageBytes / pageBytes ≡ page = omega arith in

@@ -29,7 +29,11 @@ plan-passes n image card some most lc bytes free =
     let pages : 1 ≤ n = omega arith in
     rw (plan-verdict n image card w pages lw most lc bytes free) at (judged n (planEvents image) image card w pages lw lc bytes (plan-fits image))
 
--- So does its text.
+-- The text of a plan gives its events back.
+pub plan-spells : (image : List ℕ) → allBytes image ≡ true → eventsOf (planOf image) ≡ planEvents image
+plan-spells image y = plan-events image y
+
+-- So the text passes too.
 pub plan-text-passes : (n : ℕ) (image card : List ℕ) → 1 ≤ length image → length image ≤ flashBytes n → length card ≡ optionBytes → allBytes image ≡ true → allBytes card ≡ true → barred image card ≡ false → Judged n (eventsOf (planOf image)) image card verdict.Pass
 plan-text-passes n image card some most lc y bytes free = rw (plan-events image y) (plan-passes n image card some most lc bytes free)
 
