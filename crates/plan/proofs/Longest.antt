@@ -8,7 +8,7 @@ use Rattle.board.specs.Layout.{pageBytes, flashFirst}
 use Rattle.job.specs.Event.{Event, lineOf, textOf}
 use Rattle.job.proofs.SpellSize.{line-length-of}
 use Rattle.plan.specs.Plan.{two, four, download, getStatus, polled, pageAddress, setPointer, padded, pageOf, leaving, pagesFrom, pagesOf, planEvents, planOf}
-use Rattle.plan.proofs.Image.{padded-most, page-most}
+use Rattle.plan.proofs.Image.{padded-most, page-most, page-full}
 
 -- a line has 20 bytes and two for each byte of data
 download-line : (value : ℕ) (xs : List ℕ) → length (lineOf (download value xs)) ≡ 20 + length xs * 2
@@ -40,20 +40,41 @@ leaving-text =
     let c = text-on getStatus [] in
     omega (arith, a, b, c, download-line 0 [], status-line)
 
-pages-text : (image : List ℕ) (count page : ℕ) → length (textOf (pagesFrom image count page)) ≤ count * 2248 + 110
+-- one page of them, in front of others
+page-text : (image : List ℕ) (count page : ℕ) → length (textOf (pagesFrom image (suc count) page)) ≡ 200 + length (padded (pageOf image page)) * 2 + length (textOf (pagesFrom image count (suc page)))
 unfolding pagesFrom
-pages-text image zero page = omega (arith, leaving-text)
-pages-text image (suc count) page =
+page-text image count page =
     let xs : List ℕ = padded (pageOf image page) in
     let rest : List Event = pagesFrom image count (suc page) in
     let a = polled-text 0 (0x41 ∷ four (pageAddress page)) (polled (setPointer (pageAddress page)) (polled (download 2 xs) rest)) in
     let b = polled-text 0 (0x21 ∷ four (pageAddress page)) (polled (download 2 xs) rest) in
     let c = polled-text 2 xs rest in
-    let most : length xs ≤ pageBytes = padded-most (pageOf image page) (page-most image page) in
-    let later = pages-text image count (suc page) in
-    omega (arith, a, b, c, most, later)
+    omega (arith, a, b, c)
 
--- a page takes 2,248 bytes at most
-pub plan-text : (image : List ℕ) → length (planOf image) ≤ pagesOf image * 2248 + 110
+none-text : (image : List ℕ) (page : ℕ) → length (textOf (pagesFrom image 0 page)) ≡ 110
+unfolding pagesFrom
+none-text image page = leaving-text
+
+pages-most : (image : List ℕ) (count page : ℕ) → length (textOf (pagesFrom image count page)) ≤ count * 2248 + 110
+pages-most image zero page = omega (arith, none-text image page)
+pages-most image (suc count) page =
+    let most : length (padded (pageOf image page)) ≤ pageBytes = padded-most (pageOf image page) (page-most image page) in
+    omega (arith, page-text image count page, most, pages-most image count (suc page))
+
+pages-full : (image : List ℕ) (count page : ℕ) → (page + count) * pageBytes ≤ length image → length (textOf (pagesFrom image count page)) ≡ count * 2248 + 110
+pages-full image zero page h = none-text image page
+pages-full image (suc count) page h =
+    let here : (page + 1) * pageBytes ≤ length image = omega arith in
+    let rest : (suc page + count) * pageBytes ≤ length image = omega arith in
+    omega (arith, page-text image count page, page-full image page here, pages-full image count (suc page) rest)
+
+-- a page takes 2,248 bytes at most, and so many where the image fills it
+pub plan-most : (image : List ℕ) → length (planOf image) ≤ pagesOf image * 2248 + 110
 unfolding planOf planEvents
-plan-text image = pages-text image (pagesOf image) 0
+plan-most image = pages-most image (pagesOf image) 0
+
+pub plan-full : (image : List ℕ) → pagesOf image * pageBytes ≤ length image → length (planOf image) ≡ pagesOf image * 2248 + 110
+unfolding planOf planEvents
+plan-full image h =
+    let all : (0 + pagesOf image) * pageBytes ≤ length image = omega arith in
+    pages-full image (pagesOf image) 0 all

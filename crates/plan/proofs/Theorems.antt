@@ -2,10 +2,10 @@
 use mathlib.Core.Path.{_≡_}
 use mathlib.Core.Bool.{true, false}
 use mathlib.Core.List.{List}
-use Prim.Native.Nat.{ℕ, _≤_}
+use Prim.Native.Nat.{ℕ, _*_, _≤_}
 use native.Mathlib.Omega.{arith}
 use lib.ListN.{length, replicate, length-replicate}
-use Rattle.board.specs.Layout.{loggerPages, flashBytes, optionBytes}
+use Rattle.board.specs.Layout.{loggerPages, pageBytes, flashBytes, optionBytes}
 use Rattle.loader.specs.declared.Admission.the-variants as admission
 use Rattle.hex.specs.Hex.{allBytes}
 use Rattle.job.specs.Text.{limit, eventsOf}
@@ -18,7 +18,7 @@ use Rattle.plan.specs.Plan.{pagesOf, planEvents, planOf, barred, planabl
 use Rattle.plan.proofs.Passes.{plan-verdict}
 use Rattle.plan.proofs.Proper.{plan-fits, plan-events}
 use Rattle.plan.proofs.Admitted.{planable-supplied, planable-lengths, planable-free}
-use Rattle.plan.proofs.Longest.{plan-text}
+use Rattle.plan.proofs.Longest.{plan-most, plan-full}
 use Rattle.plan.proofs.Call.{pass-only, plan-checkable}
 
 -- The events of a plan pass, on every board of n pages with a card that does not bar the image.
@@ -43,11 +43,17 @@ planable-passes n image card y bytes e =
     let s = planable-lengths n image card e in
     plan-text-passes n image card (s .some) (s .most) (s .options) y bytes (planable-free n image card e)
 
--- "The longest is 36,078 bytes"
+-- "The longest is 36,078 bytes": no plan is longer, and that of a full image is so long.
 pub plan-longest : (image : List ℕ) → length image ≤ flashBytes loggerPages → length (planOf image) ≤ 36078
 plan-longest image h =
     let pages : pagesOf image ≤ loggerPages = omega arith in
-    omega (arith, plan-text image)
+    omega (arith, plan-most image)
+
+pub plan-longest-met : (image : List ℕ) → length image ≡ flashBytes loggerPages → length (planOf image) ≡ 36078
+plan-longest-met image h =
+    let pages : pagesOf image ≡ loggerPages = omega arith in
+    let full : pagesOf image * pageBytes ≤ length image = omega arith in
+    omega (arith, plan-full image full)
 
 -- The logger's checker, given a text that its plan writer wrote and a work area of the right size, answers Pass: its promise allows nothing else.
 pub checker-passes : (image card w w′ : List ℕ) (v : Verdict) → allBytes image ≡ true → allBytes card ≡ true → planable loggerPages image card ≡ admission.Admitted → length w ≡ workBytes loggerPages → Checked loggerPages (planOf image) image card w v w′ → v ≡ verdict.Pass
