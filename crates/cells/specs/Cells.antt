@@ -159,6 +159,10 @@ lowestFrom test (suc count) i = cond (test i) i (lowestFrom test count (suc i))
 abbrev pub flashVerdict : ℕ → ℕ → Verdict
 flashVerdict n f = cond (ltb f (flashBytes n)) (verdict.Flash f) verdict.Pass
 
+-- the first end condition that fails, or 0
+abbrev pub endNumber : Bool → Bool → Bool → ℕ
+endNumber left first same = cond (not left) 1 (cond (not first) 2 (cond (not same) 3 0))
+
 unfoldable pub endVerdict : ℕ → List ℕ → List ℕ → Device → List ℕ → Verdict
 endVerdict n image card d w =
     cond (not (isLeft (d .mode))) (verdict.End 1)

@@ -15,7 +15,7 @@ use Rattle.device.specs.declared.Device.{Device}
 use Rattle.job.specs.Event.{same}
 use Rattle.verdict.specs.declared.Verdict.the-variants as verdict
 use Rattle.verdict.specs.Verdict.{isLeft, pagesEnd}
-use Rattle.cells.specs.Cells.{marked, learnt, begun, suspect, lowestFrom, endVerdict}
+use Rattle.cells.specs.Cells.{marked, learnt, begun, suspect, lowestFrom, endNumber, flashVerdict, endVerdict}
 
 pub lowest-found : (test : ℕ → Bool) (i e : ℕ) → i < e → test i ≡ true → i ≡ lowestFrom test (e - i) i
 unfolding lowestFrom
@@ -77,29 +77,29 @@ module _ (n : ℕ) (image w : List ℕ) (f bytes : ℕ) (b : bytes ≡ memoryByt
   unfolding suspect
   suspect-other h k = rw (le-ltb f (length image) h, le-ltb f (pagesEnd image) k, b)
 
--- the end conditions, each by the tests that lead to it
-module _ (n : ℕ) (image card : List ℕ) (d : Device) (w : List ℕ) where
-  pub end-mode : isLeft (d .mode) ≡ false → verdict.End 1 ≡ endVerdict n image card d w
+-- the end conditions by their tests: c is the number of the first that fails
+module _ (n : ℕ) (image card : List ℕ) (d : Device) (w : List ℕ) (left first kept : Bool) (c : ℕ) (l : left ≡ isLeft (d .mode)) (p : first ≡ eqb (d .pointer) flashFirst) (o : same (take optionBytes (drop (optionsFrom n) w)) card ≡ kept) (is : c ≡ endNumber left first kept) where
+  by-number : endVerdict n image card d w ≡ cond (eqb (endNumber left first kept) 0) (flashVerdict n (lowestFrom (suspect n image w) (flashBytes n) 0)) (verdict.End (endNumber left first kept))
   unfolding endVerdict
-  end-mode a = rw a
+  by-number = rw (← l, ← p, o) (go left first kept)
+    where
+      go : (a b e : Bool) → cond (not a) (verdict.End 1) (cond (not b) (verdict.End 2) (cond (not e) (verdict.End 3) (flashVerdict n (lowestFrom (suspect n image w) (flashBytes n) 0)))) ≡ cond (eqb (endNumber a b e) 0) (flashVerdict n (lowestFrom (suspect n image w) (flashBytes n) 0)) (verdict.End (endNumber a b e))
+      go false b e = refl
+      go true false e = refl
+      go true true false = refl
+      go true true true = refl
 
-  pub end-pointer : isLeft (d .mode) ≡ true → (d .pointer ≡ flashFirst → ⊥) → verdict.End 2 ≡ endVerdict n image card d w
-  unfolding endVerdict
-  end-pointer a b = rw (a, ne-eqb (d .pointer) flashFirst b)
+  pub end-fails : (c ≡ 0 → ⊥) → verdict.End c ≡ endVerdict n image card d w
+  end-fails h = sym (by-number ∙ rw (← is, ne-eqb c 0 h))
 
-  pub end-options : isLeft (d .mode) ≡ true → d .pointer ≡ flashFirst → same (take optionBytes (drop (optionsFrom n) w)) card ≡ false → verdict.End 3 ≡ endVerdict n image card d w
-  unfolding endVerdict
-  end-options a b c = rw (a, eq-eqb (d .pointer) flashFirst b, c)
+  end-flash : (f size : ℕ) → c ≡ 0 → f ≡ lowestFrom (suspect n image w) (flashBytes n) 0 → size ≡ flashBytes n → cond (ltb f size) (verdict.Flash f) verdict.Pass ≡ endVerdict n image card d w
+  end-flash f size h e s = sym (by-number ∙ rw (← is, eq-eqb c 0 h, ← e, ← s))
 
-  end-flash : (f size : ℕ) → isLeft (d .mode) ≡ true → d .pointer ≡ flashFirst → same (take optionBytes (drop (optionsFrom n) w)) card ≡ true → f ≡ lowestFrom (suspect n image w) (flashBytes n) 0 → size ≡ flashBytes n → cond (ltb f size) (verdict.Flash f) verdict.Pass ≡ endVerdict n image card d w
-  unfolding endVerdict
-  end-flash f size a b c e s = rw (a, eq-eqb (d .pointer) flashFirst b, c, ← e, s)
+  pub end-wrong : (f size : ℕ) → c ≡ 0 → f ≡ lowestFrom (suspect n image w) (flashBytes n) 0 → size ≡ flashBytes n → f < size → verdict.Flash f ≡ endVerdict n image card d w
+  end-wrong f size h e s g = rw (lt-ltb f size g) at (end-flash f size h e s)
 
-  pub end-wrong : (f size : ℕ) → isLeft (d .mode) ≡ true → d .pointer ≡ flashFirst → same (take optionBytes (drop (optionsFrom n) w)) card ≡ true → f ≡ lowestFrom (suspect n image w) (flashBytes n) 0 → size ≡ flashBytes n → f < size → verdict.Flash f ≡ endVerdict n image card d w
-  end-wrong f size a b c e s h = rw (lt-ltb f size h) at (end-flash f size a b c e s)
-
-  pub end-right : (f size : ℕ) → isLeft (d .mode) ≡ true → d .pointer ≡ flashFirst → same (take optionBytes (drop (optionsFrom n) w)) card ≡ true → f ≡ lowestFrom (suspect n image w) (flashBytes n) 0 → size ≡ flashBytes n → size ≤ f → verdict.Pass ≡ endVerdict n image card d w
-  end-right f size a b c e s h = rw (le-ltb f size h) at (end-flash f size a b c e s)
+  pub end-right : (f size : ℕ) → c ≡ 0 → f ≡ lowestFrom (suspect n image w) (flashBytes n) 0 → size ≡ flashBytes n → size ≤ f → verdict.Pass ≡ endVerdict n image card d w
+  end-right f size h e s g = rw (le-ltb f size g) at (end-flash f size h e s)
 
 -- the options as a part of the work area
 pub options-part : (n from : ℕ) (w card : List ℕ) (b : Bool) → from ≡ optionsFrom n → b ≡ same (take (from + optionBytes - from) (drop from w)) card → same (take optionBytes (drop (optionsFrom n) w)) card ≡ b

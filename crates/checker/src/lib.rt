@@ -23,7 +23,7 @@ ghost use Rattle.job.specs.Calls.{measureOf};
 ghost use Rattle.verdict.specs.Verdict.{isLeft};
 ghost use Rattle.checker.specs.Walk.{movedAs, Ahead, Advanced, overAs};
 ghost use Rattle.verdict.specs.Checked.{workBytes, readable, checkable, Checked};
-ghost use Rattle.cells.specs.Cells.{blockFrom, marked, learnt, blockOf, pageErased, pagesErased, worked, workedOf, writes, reports, statusMoves, readsMoves, requestMoves, begun, overOf, suspect, lowestFrom, endVerdict, verdictOf};
+ghost use Rattle.cells.specs.Cells.{blockFrom, marked, learnt, blockOf, pageErased, pagesErased, worked, workedOf, writes, reports, statusMoves, readsMoves, requestMoves, begun, overOf, suspect, lowestFrom, endNumber, endVerdict, verdictOf};
 use action::Access;
 use action::Action;
 use board::Board;
@@ -383,22 +383,34 @@ fn finish(board: Board, device: Device, image: &[u8], card: &[u8], work: &[u8]) 
     ensures { λ r. ⌜ r ≡ endVerdict (board .pages) (now (image .entry)) (now (card .entry)) device (now (work .entry)) ⌝ }
 {
     let mode = device.mode;
-    if !has_left(mode) {
-        return Verdict::End(1);
-    }
-    if device.pointer != Board::FLASH {
-        return Verdict::End(2);
-    }
     let from = board.options_from();
     let to = from + Board::OPTION_BYTES;
-    if !same_options(&work[from..to], card) {
-        return Verdict::End(3);
+    let same = same_options(&work[from..to], card);
+    let fault = end_fault(has_left(mode), device.pointer == Board::FLASH, same);
+    if fault != 0 {
+        return Verdict::End(fault);
     }
     let f = first_suspect(board, image, work);
     if f < board.flash_bytes() {
         return Verdict::Flash(f);
     }
     Verdict::Pass
+}
+
+// The first end condition that fails, or 0: has the board left, from the first address, with the same options?
+fn end_fault(left: bool, first: bool, same: bool) -> u8
+    ensures { λ r. ⌜ r ≡ endNumber left first same ⌝ }
+{
+    if !left {
+        return 1;
+    }
+    if !first {
+        return 2;
+    }
+    if !same {
+        return 3;
+    }
+    0
 }
 
 fn has_left(mode: Mode) -> bool
