@@ -77,12 +77,6 @@ module _ (n : ℕ) (t : List ℕ) (image card work : ℕ) where
 pub walk-ahead : (t : List ℕ) → firstBad t ≡ 0 → Ahead t 0
 walk-ahead t h = record { text = sym (good-text t h); right = good-proper t h }
 
--- a list of bytes, byte by byte
-pub bytes-all : (xs : List ℕ) → ((i : ℕ) → getD xs i 0 < 256) → allBytes xs ≡ true
-unfolding allBytes
-bytes-all [] h = refl
-bytes-all (x ∷ xs) h = rw (lt-ltb x 256 (h 0), bytes-all xs (λ i. h (suc i)))
-
 event-fits : (e : Event) → fits e ≡ true → Fitting e
 unfolding fits
 event-fits attach h = tt

@@ -1,27 +1,16 @@
 -- What a card allows that does not bar an image. Assumes nothing.
-use mathlib.Core.Path.{_≡_, refl, _∙_, sym}
-use mathlib.Core.Bool.{Bool, true, false, _||_, true≢false}
-use mathlib.Core.List.{List, [], _∷_}
-use Prim.Native.Nat.{ℕ, zero, suc, _+_, _*_, _^_, _<_}
+use mathlib.Core.Path.{_≡_, _∙_, sym}
+use mathlib.Core.Bool.{true, false, true≢false}
+use mathlib.Core.List.{List}
+use Prim.Native.Nat.{ℕ, suc, _+_, _*_, _^_, _<_}
 use native.Mathlib.Omega.{arith}
-use lib.Dec.{ltb}
 use lib.ListN.{getD}
-use borrow.Author.Tests.{ltb-true}
-use Rattle.laws.proofs.Split.{by-lt, and-true}
+use Rattle.laws.proofs.Split.{by-lt, or-false}
 use Rattle.board.specs.Protection.{lockedFrom, wordFrom, writeProtected}
 use Rattle.board.proofs.Protection.{protected-past}
 use Rattle.hex.specs.Hex.{allBytes}
+use Rattle.hex.proofs.Bytes.{byte-at}
 use Rattle.plan.specs.Plan.{pagesOf, anyProtected, barred}
-
-pub or-false : (a b : Bool) → (a || b) ≡ false → (a ≡ false) × (b ≡ false)
-or-false true b e = absurd (true≢false e)
-or-false false b e = (refl, e)
-
-byte-at : (xs : List ℕ) (i : ℕ) → allBytes xs ≡ true → getD xs i 0 < 256
-unfolding allBytes
-byte-at [] i h = omega arith
-byte-at (x ∷ xs) zero h = ltb-true _ _ (and-true (ltb x 256) (allBytes xs) h .0)
-byte-at (x ∷ xs) (suc i) h = byte-at xs i (and-true (ltb x 256) (allBytes xs) h .1)
 
 word-small : (card : List ℕ) → allBytes card ≡ true → wordFrom 0 card < 2 ^ 32
 unfolding wordFrom

@@ -27,7 +27,7 @@ use Rattle.cells.specs.Cells.{blockFrom, known, pageErased, begun, overOf}
 use Rattle.cells.proofs.Boards.{fresh-alike, plain, plain-fresh, plain-byte}
 use Rattle.plan.specs.Plan.{pageAddress, padded, pageOf, polled, erasePage, setPointer, download}
 use Rattle.plan.proofs.Requests.{resting, idle-free, pointer-polled, erase-polled, write-polled}
-use Rattle.plan.proofs.Page.{Learns, erase-learns, block-learns, block-is, white-surely, store-learns}
+use Rattle.plan.proofs.Written.{Learns, erase-learns, block-learns, block-is, white-surely, store-learns}
 use Rattle.plan.proofs.Image.{page-at}
 
 -- the options that are known are the card

@@ -23,7 +23,7 @@ use Rattle.verdict.specs.Checked.{workBytes}
 use Rattle.cells.specs.Cells.{begun, Over, ended, overOf, suspect, lowestFrom, endVerdict, overVerdict, verdictOf}
 use Rattle.plan.specs.Plan.{pageAddress, padded, pageOf, getStatus, download, leaving, pagesFrom, pagesOf, planEvents, anyProtected, barred}
 use Rattle.plan.proofs.Requests.{resting, start-free, idle-free, over-on, leave-moves, manifest-moves, pointer-polled}
-use Rattle.plan.proofs.Page.{default-same}
+use Rattle.plan.proofs.Written.{default-same}
 use Rattle.plan.proofs.Image.{padded-two, padded-most, page-most, page-some}
 use Rattle.plan.proofs.Card.{free-page-small, barred-parts, protected-parts}
 use Rattle.plan.proofs.Pages.{Placed, begun-placed, placed-on, pageWritten, written-learns, page-polled}

@@ -1,8 +1,8 @@
--- The checker passes every plan: document 01, "The checker and the plan", its last paragraph. Assumes nothing.
-use mathlib.Core.Path.{_≡_}
+-- What the plan writer's promise amounts to, and that the checker passes what it writes. Document 01, "The checker and the plan", its last paragraph. Assumes nothing.
+use mathlib.Core.Path.{_≡_, _∙_, sym}
 use mathlib.Core.Bool.{true, false}
 use mathlib.Core.List.{List}
-use Prim.Native.Nat.{ℕ, _*_, _≤_}
+use Prim.Native.Nat.{ℕ, _%_, _≤_}
 use native.Mathlib.Omega.{arith}
 use lib.ListN.{length, replicate, length-replicate}
 use Rattle.board.specs.Layout.{loggerPages, pageBytes, flashBytes, optionBytes}
@@ -13,13 +13,37 @@ use Rattle.verdict.specs.declared.Verdict.{Verdict}
 use Rattle.verdict.specs.declared.Verdict.the-variants as verdict
 use Rattle.verdict.specs.Verdict.{Judged}
 use Rattle.verdict.specs.Checked.{workBytes, Checked}
+use Rattle.verdict.proofs.Theorems.{one-verdict}
 use Rattle.cells.proofs.Judgement.{judged}
-use Rattle.plan.specs.Plan.{pagesOf, planEvents, planOf, barred, planable}
+use Rattle.plan.specs.Plan.{planEvents, planOf, barred, planable, planned}
 use Rattle.plan.proofs.Passes.{plan-verdict}
 use Rattle.plan.proofs.Proper.{plan-fits, plan-events}
 use Rattle.plan.proofs.Admitted.{planable-supplied, planable-lengths, planable-free}
-use Rattle.plan.proofs.Longest.{plan-most, plan-full}
-use Rattle.plan.proofs.Call.{pass-only, plan-checkable}
+use Rattle.plan.proofs.Call.{plan-checkable}
+use Rattle.laws.proofs.Split.{by-eq}
+use Rattle.job.specs.declared.Done.{Done}
+use Rattle.job.specs.Calls.{left}
+use Rattle.job.proofs.Answers.{left-injective}
+use Rattle.plan.proofs.Length.{bytes-one, bytes-more, plan-length}
+
+-- "any two outcomes allowed by a promise are equal"
+pub one-plan : (n : ℕ) (image card out x y : List ℕ) (r s : Done) → left r x ≡ planned n image card out → left s y ≡ planned n image card out → (r ≡ s) × (x ≡ y)
+one-plan n image card out x y r s p q = left-injective r s x y (p ∙ sym q)
+
+-- "The longest is 36,078 bytes"
+pub plan-at-most : (image : List ℕ) → length image ≤ flashBytes loggerPages → length (planOf image) ≤ 36078
+plan-at-most image h =
+    let l = plan-length image in
+    by-eq (length image % pageBytes) 1
+    (λ e. let b = bytes-one (length image) e in omega arith)
+    (λ e. let b = bytes-more (length image) e in omega arith)
+
+-- and an image of the whole flash has one as long
+pub plan-longest : (image : List ℕ) → length image ≡ flashBytes loggerPages → length (planOf image) ≡ 36078
+plan-longest image h =
+    let l = plan-length image in
+    let b = bytes-more (length image) (omega arith) in
+    omega arith
 
 -- The events of a plan pass, on every board of n pages with a card that does not bar the image.
 pub plan-passes : (n : ℕ) (image card : List ℕ) → 1 ≤ length image → length image ≤ flashBytes n → length card ≡ optionBytes → allBytes card ≡ true → barred image card ≡ false → Judged n (planEvents image) image card verdict.Pass
@@ -43,21 +67,9 @@ planable-passes n image card y bytes e =
     let s = planable-lengths n image card e in
     plan-text-passes n image card (s .some) (s .most) (s .options) y bytes (planable-free n image card e)
 
--- "The longest is 36,078 bytes": no plan is longer, and that of a full image is so long.
-pub plan-longest : (image : List ℕ) → length image ≤ flashBytes loggerPages → length (planOf image) ≤ 36078
-plan-longest image h =
-    let pages : pagesOf image ≤ loggerPages = omega arith in
-    omega (arith, plan-most image)
-
-pub plan-longest-met : (image : List ℕ) → length image ≡ flashBytes loggerPages → length (planOf image) ≡ 36078
-plan-longest-met image h =
-    let pages : pagesOf image ≡ loggerPages = omega arith in
-    let full : pagesOf image * pageBytes ≤ length image = omega arith in
-    omega (arith, plan-full image full)
-
 -- The logger's checker, given a text that its plan writer wrote and a work area of the right size, answers Pass: its promise allows nothing else.
 pub checker-passes : (image card w w′ : List ℕ) (v : Verdict) → allBytes image ≡ true → allBytes card ≡ true → planable loggerPages image card ≡ admission.Admitted → length w ≡ workBytes loggerPages → Checked loggerPages (planOf image) image card w v w′ → v ≡ verdict.Pass
 checker-passes image card w w′ v y bytes e lw c =
-    let short : length (planOf image) ≤ limit = omega (arith, plan-longest image (planable-lengths loggerPages image card e .most)) in
+    let short : length (planOf image) ≤ limit = omega (arith, plan-at-most image (planable-lengths loggerPages image card e .most)) in
     let admitted = plan-checkable loggerPages image card w y short (planable-supplied loggerPages image card e) lw in
-    pass-only loggerPages (eventsOf (planOf image)) image card v (planable-passes loggerPages image card y bytes e) (rw admitted at c)
+    one-verdict loggerPages (eventsOf (planOf image)) image card v verdict.Pass (rw admitted at c) (planable-passes loggerPages image card y bytes e)

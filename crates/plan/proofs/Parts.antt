@@ -1,0 +1,88 @@
+-- The parts of the plan, laid one behind the other. Assumes nothing.
+use mathlib.Core.Path.{_≡_, refl, ap, ap₂, _∙_, sym, subst}
+use mathlib.Core.List.{List, [], _∷_, _++_}
+use Prim.Native.Nat.{ℕ, _+_, _-_, _*_, _≤_, _<_}
+use native.Mathlib.Omega.{arith}
+use lib.ListN.{length, take, drop, length-append, length-drop}
+use lib.Seq.{sets, take-all}
+use Rattle.laws.specs.Bytes.{put}
+use Rattle.laws.proofs.Append.{sets-append}
+use Rattle.laws.proofs.Bytes.{sets-put, rest-is, take-at-most}
+use Rattle.board.specs.Layout.{pageBytes, flashFirst}
+use Rattle.job.specs.Event.{request, lineOf}
+use Rattle.plan.specs.Plan.{download, getStatus, pageAddress, erasePage, setPointer, padded, pageOf}
+use Rattle.plan.specs.Parts.{polledText, pageText, leavingText, Laid, statusBytes, sentBytes, leavingBytes, paddedLength, pageLines}
+use Rattle.plan.proofs.Lines.{line-fits, line-count, status-length, polled-text, command-length, leaving-text, leave-length}
+
+pub line-laid : (q m m′ : List ℕ) (at : ℕ) → 8 ≤ length q → at + (20 + (length q - 8) * 2) ≤ length m → m′ ≡ put at (lineOf (request q)) m → m′ ≡ sets m at (lineOf (request q))
+line-laid q m m′ at h room e = e ∙ sym (sets-put (lineOf (request q)) m at (line-fits q at (length m) h room .1))
+
+laid-behind : (xs ys m m₁ m₂ : List ℕ) (at a n : ℕ) → length xs ≡ n → m₁ ≡ sets m at xs → a ≡ at + n → m₂ ≡ sets m₁ a ys → m₂ ≡ sets m at (xs ++ ys)
+laid-behind xs ys m m₁ m₂ at a n l p e q =
+    let k : a ≡ at + length xs = omega arith in
+    q ∙ ap₂ (λ (z : List ℕ) (i : ℕ). sets z i ys) p k ∙ sym (sets-append xs ys m at)
+
+-- a request with its two GETSTATUS
+pub send-laid : (q m m₁ m₂ m₃ : List ℕ) (at n b r : ℕ) → 8 ≤ length q → at + sentBytes (length q - 8) ≤ length m → (m₁ ≡ put at (lineOf (request q)) m) × (n ≡ length (lineOf (request q))) → Laid m₁ (at + n) (lineOf getStatus) statusBytes m₂ b → Laid m₂ b (lineOf getStatus) statusBytes m₃ r → Laid m at (polledText (request q)) (sentBytes (length q - 8)) m₃ r
+send-laid q m m₁ m₂ m₃ at n b r h room w p s =
+    let l = lineOf (request q) in
+    let g = lineOf getStatus in
+    let k : n ≡ 20 + (length q - 8) * 2 = line-count q n (w .1) h in
+    let e : b ≡ at + (n + statusBytes) = let z = p .1 in omega arith in
+    let t : length (l ++ g) ≡ n + statusBytes = length-append l g ∙ ap₂ (λ (i : ℕ) (j : ℕ). i + j) (sym (w .1)) status-length in
+    let first : m₁ ≡ sets m at l = line-laid q m m₁ at h (omega arith) (w .0) in
+    let second : m₂ ≡ sets m at (l ++ g) = laid-behind l g m m₁ m₂ at (at + n) n (sym (w .1)) first refl (p .0) in
+    let third : m₃ ≡ sets m at (l ++ g ++ g) = laid-behind (l ++ g) g m m₂ m₃ at b (n + statusBytes) t second e (s .0) in
+    let z = p .1 in
+    let y = s .1 in
+    (rw (polled-text (request q)) third, omega arith)
+
+-- one page: its place in the image, and its three requests
+pub last-page : (image : List ℕ) (page : ℕ) → length image - page * pageBytes < pageBytes → take (length image - page * pageBytes) (drop (page * pageBytes) image) ≡ pageOf image page
+last-page image page h =
+    let k : length (drop (page * pageBytes) image) ≤ pageBytes = simp length-drop (omega arith) in
+    rest-is (page * pageBytes) image ∙ sym (take-all pageBytes (drop (page * pageBytes) image) k)
+
+pub full-page : (image : List ℕ) (page : ℕ) → take (page * pageBytes + pageBytes - page * pageBytes) (drop (page * pageBytes) image) ≡ pageOf image page
+full-page image page =
+    let k : page * pageBytes + pageBytes - page * pageBytes ≡ pageBytes = omega arith in
+    ap (λ (n : ℕ). take n (drop (page * pageBytes) image)) k
+
+pub page-room : (image : List ℕ) (page at n : ℕ) → at + pageLines image page ≤ n → at + sentBytes 5 + sentBytes 5 + sentBytes (paddedLength (length (pageOf image page))) ≤ n
+unfolding pageLines
+page-room image page at n h = omega arith
+
+pub block-room : (image xs : List ℕ) (page b n : ℕ) → xs ≡ pageOf image page → b + sentBytes (paddedLength (length (pageOf image page))) ≤ n → (length xs ≤ pageBytes) × (b + sentBytes (paddedLength (length xs)) ≤ n)
+block-room image xs page b n e room =
+    let s : length xs ≤ pageBytes = rw e (take-at-most pageBytes (drop (page * pageBytes) image)) in
+    let t = ap (λ (ys : List ℕ). paddedLength (length ys)) e in
+    (s, omega arith)
+
+pub page-laid : (image xs m m₁ m₂ m₃ : List ℕ) (page at a b r : ℕ) → xs ≡ pageOf image page → Laid m at (polledText (erasePage (pageAddress page))) (sentBytes 5) m₁ a → Laid m₁ a (polledText (setPointer (pageAddress page))) (sentBytes 5) m₂ b → Laid m₂ b (polledText (download 2 (padded xs))) (sentBytes (paddedLength (length xs))) m₃ r → Laid m at (pageText image page) (pageLines image page) m₃ r
+unfolding pageText pageLines
+page-laid image xs m m₁ m₂ m₃ page at a b r e p q s =
+    let first = polledText (erasePage (pageAddress page)) in
+    let second = polledText (setPointer (pageAddress page)) in
+    let third = polledText (download 2 (padded (pageOf image page))) in
+    let l : length first ≡ sentBytes 5 = command-length 0x41 (pageAddress page) in
+    let k : length second ≡ sentBytes 5 = command-length 0x21 (pageAddress page) in
+    let t : length (first ++ second) ≡ sentBytes 5 + sentBytes 5 = length-append first second ∙ ap₂ (λ (i : ℕ) (j : ℕ). i + j) l k in
+    let u : Laid m₂ b third (sentBytes (paddedLength (length (pageOf image page)))) m₃ r = subst (λ (ys : List ℕ). Laid m₂ b (polledText (download 2 (padded ys))) (sentBytes (paddedLength (length ys))) m₃ r) e s in
+    let both : m₂ ≡ sets m at (first ++ second) = laid-behind first second m m₁ m₂ at a (sentBytes 5) l (p .0) (p .1) (q .0) in
+    let x = p .1 in
+    let y = q .1 in
+    let z = u .1 in
+    (laid-behind (first ++ second) third m m₂ m₃ at b (sentBytes 5 + sentBytes 5) t both (omega arith) (u .0), omega arith)
+
+-- the end
+pub leave-laid : (m m₁ m₂ m₃ : List ℕ) (at a n : ℕ) → length m₁ ≡ length m → at + leavingBytes ≤ length m → Laid m at (polledText (setPointer flashFirst)) (sentBytes 5) m₁ a → (m₂ ≡ put a (lineOf (download 0 [])) m₁) × (n ≡ length (lineOf (download 0 []))) → m₃ ≡ sets m₂ (a + n) (lineOf getStatus) → m₃ ≡ sets m at leavingText
+leave-laid m m₁ m₂ m₃ at a n same room p w s =
+    let first = polledText (setPointer flashFirst) in
+    let second = lineOf (download 0 []) in
+    let l : length first ≡ sentBytes 5 = command-length 0x21 flashFirst in
+    let k : n ≡ 20 = w .1 ∙ leave-length in
+    let e = p .1 in
+    let t : length (first ++ second) ≡ sentBytes 5 + n = length-append first second ∙ ap₂ (λ (i : ℕ) (j : ℕ). i + j) l (sym (w .1)) in
+    let laid : m₂ ≡ sets m₁ a second = line-laid (0x21 ∷ 1 ∷ 0 ∷ 0 ∷ 0 ∷ 0 ∷ 0 ∷ 0 ∷ []) m₁ m₂ a (omega arith) (omega arith) (w .0) in
+    let both : m₂ ≡ sets m at (first ++ second) = laid-behind first second m m₁ m₂ at a (sentBytes 5) l (p .0) (p .1) laid in
+    rw leaving-text (laid-behind (first ++ second) (lineOf getStatus) m m₂ m₃ at (a + n) (sentBytes 5 + n) t both (omega arith) s)

@@ -1,0 +1,59 @@
+-- The plan in the parts that the writer writes one after the other, and its length. Document 01, "The checker and the plan", last paragraph. Assumes nothing.
+use mathlib.Core.Bool.{cond}
+use mathlib.Core.List.{List, [], _++_}
+use mathlib.Core.Path.{_≡_}
+use Prim.Native.Nat.{ℕ, _+_, _-_, _*_, _/_, _%_}
+use lib.Dec.{eqb}
+use lib.ListN.{length}
+use lib.Seq.{sets}
+use Rattle.board.specs.Layout.{pageBytes, flashBytes}
+use Rattle.job.specs.Event.{Event, textOf}
+use Rattle.plan.specs.Plan.{download, polled, pageAddress, erasePage, setPointer, padded, pageOf, leaving, pagesFrom}
+
+-- the lines of an event and of the two GETSTATUS that follow it
+unfoldable pub polledText : Event → List ℕ
+polledText e = textOf (polled e [])
+
+-- the lines of one page
+unfoldable pub pageText : List ℕ → ℕ → List ℕ
+pageText image page =
+    polledText (erasePage (pageAddress page)) ++ polledText (setPointer (pageAddress page)) ++ polledText (download 2 (padded (pageOf image page)))
+
+-- the lines of `count` pages from `page` on, and of what comes behind them
+unfoldable pub restText : List ℕ → ℕ → ℕ → List ℕ
+restText image count page = textOf (pagesFrom image count page)
+
+unfoldable pub leavingText : List ℕ
+leavingText = textOf leaving
+
+-- m with lines xs of n bytes over its own from place `at` on is m′, and r is the place behind them
+abbrev pub Laid : List ℕ → ℕ → List ℕ → ℕ → List ℕ → ℕ → Type 0
+Laid m at xs n m′ r = (m′ ≡ sets m at xs) × (r ≡ at + n)
+
+-- how long the line of GETSTATUS is
+abbrev pub statusBytes : ℕ
+statusBytes = 20
+
+-- how long the lines of a request with n bytes of data are, and of the two GETSTATUS that follow it
+abbrev pub sentBytes : ℕ → ℕ
+sentBytes n = 60 + n * 2
+
+-- how long the lines behind the last page are
+abbrev pub leavingBytes : ℕ
+leavingBytes = 110
+
+-- how many bytes a block has that holds n bytes of the image
+unfoldable pub paddedLength : ℕ → ℕ
+paddedLength n = cond (eqb n 1) 2 n
+
+-- how long the lines of a page are
+unfoldable pub pageLines : List ℕ → ℕ → ℕ
+pageLines image page = sentBytes 5 + sentBytes 5 + sentBytes (paddedLength (length (pageOf image page)))
+
+-- the most bytes that an image has on a board of any page count, which is a byte
+abbrev pub mostBytes : ℕ
+mostBytes = flashBytes 255
+
+-- how long the plan of an image of n bytes is: 200 for the lines of a page without the digits of its bytes, two digits a byte, and the end
+unfoldable pub planBytes : ℕ → ℕ
+planBytes n = (n + (pageBytes - 1)) / pageBytes * 200 + (n + cond (eqb (n % pageBytes) 1) 1 0) * 2 + leavingBytes
