@@ -18,26 +18,37 @@ sys.dont_write_bytecode = True
 import checker
 import loader
 from check_parts import PARTS, SMALL
-from jobs import NO_MORE_JOBS, Job, judged, printed
+from jobs import ERASED, MARKED, NO_MORE_JOBS, Job, judged, printed, ramp_fill
 from loader import DEFAULT_OPTIONS, FLASH, PAGE, RAM
 from tape import CODE_NAMES, IN, OUT, RIGHT
+from walks import Dice
+
+# The parts about the trap "passing a job because it works on blank flash": their work area has to look blank.
+BLANK_FLASH = ("unwritten", "blank_only")
 
 
 class Shelf:
     """Jobs as they are made, each once."""
 
     def __init__(self):
-        self.jobs, self.family, self.known = [], "", set()
+        self.jobs, self.family, self.known, self.dice = [], "", set(), Dice(41)
 
     def add(self, events, image=SMALL, card=DEFAULT_OPTIONS, work=RIGHT):
         self.add_text([piece for event in events for piece in event], image, card, work)
 
     def add_text(self, pieces, image=SMALL, card=DEFAULT_OPTIONS, work=RIGHT):
-        job = Job(self.family, image, bytes(card), work, len(self.jobs) * 7 % 256, pieces)
+        job = Job(self.family, image, bytes(card), work, self.fill(), pieces)
         same = (image, job.card, work, job.text())
         if same not in self.known:
             self.known.add(same)
             self.jobs.append(job)
+
+    def fill(self):
+        """By dice, as the parts have rhythms of their own: a third all 0xFF, a sixth all 1, half ramps."""
+        throw = self.dice.roll(6)
+        if throw < 2 or self.family in BLANK_FLASH:
+            return ERASED
+        return MARKED if throw == 2 else ramp_fill(len(self.jobs) * 7 % 256)
 
 
 def everything():
@@ -69,6 +80,7 @@ def failure_words(events, number, card):
 
 def tally(counts, job, answer, events):
     counts["jobs of part"][job.family] += 1
+    counts["work area"][job.fill.name] += 1
     counts["answer"][" ".join(checker.report(answer).split("\t")[: 1 if answer == checker.Verdict(4, 0) else 2])] += 1
     counts["image length"][job.image.length] += 1
     if isinstance(answer, checker.Refusal):
@@ -79,6 +91,7 @@ def tally(counts, job, answer, events):
     protected = "read-protected" if job.card[0] != 0xAA else "open"
     locked = "no page locked" if job.card[8:10] == b"\xFF\xFF" else "pages locked"
     counts["card and verdict"][f"{protected}, {locked}: {kind[answer.kind]}"] += 1
+    counts["work area and verdict"][f"{job.fill.name}: {kind[answer.kind]}"] += 1
     counts["part and verdict"][f"{job.family}: {kind[answer.kind]}"] += 1
     counts["events in the job, up to"][2 ** (len(events) - 1).bit_length() if events else 0] += 1
     if answer.kind == checker.EVENT:

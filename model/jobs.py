@@ -4,7 +4,8 @@ All numbers in the file have their low byte first. A job is a header of 48 bytes
 
   0 is 1 (a header with 0 there ends the file); 2..3 image length; 4, 5 factor and seed of the image, whose
   byte i is i * factor + seed; 6 length of the work area (0 right, 1 a byte short, 2 a byte long, 3 empty);
-  7 length of the card; 8..39 its bytes; 40 seed of the work area, whose byte i is i * 3 + seed before the call
+  7 length of the card; 8..39 its bytes; 40, 41 seed and step of the work area, whose byte i is
+  i * step + seed before the call
 
 and then chunks that make up its text. Each has a head of 8 bytes: 0 kind, 2..3 count, 4..5 start, 6 factor,
 7 seed. The kinds are
@@ -34,7 +35,6 @@ HEADER = 48
 CARD_ROOM = 32
 END, LITERAL, RAMP, AGAIN = range(4)
 MOST_LITERAL = 4096
-WORK_STEP = 3
 
 # --- pieces of text: plain bytes, and these two ------------------------------------------------------------
 
@@ -180,7 +180,17 @@ def plan(image):
 # --- a job ------------------------------------------------------------------------------------------------------
 
 
-class Job(namedtuple("Job", "family image card work seed pieces")):
+# What the work area holds before the call. All 0xFF, bytes that nobody erased look erased; all 1, marks that
+# nobody set look set; in a ramp they look like neither.
+Fill = namedtuple("Fill", "name step seed")
+ERASED, MARKED = Fill("all 255", 0, 255), Fill("all 1", 0, 1)
+
+
+def ramp_fill(seed):
+    return Fill("ramp", 3, seed)
+
+
+class Job(namedtuple("Job", "family image card work fill pieces")):
     def text(self):
         return b"".join(spelled(piece) for piece in self.pieces)
 
@@ -190,7 +200,7 @@ class Job(namedtuple("Job", "family image card work seed pieces")):
         header[2:4] = little(self.image.length, 2)
         header[4:8] = bytes([self.image.factor, self.image.seed, self.work, len(self.card)])
         header[8 : 8 + len(self.card)] = self.card
-        header[40] = self.seed
+        header[40:42] = bytes([self.fill.seed, self.fill.step])
         assert len(header) == HEADER and len(self.card) <= CARD_ROOM
         return bytes(header) + b"".join(chunks(self.pieces))
 
@@ -199,7 +209,8 @@ class Job(namedtuple("Job", "family image card work seed pieces")):
         text = self.text()
         told = ", ".join(in_turn(map(event_words, events))) or repr(text[:60].decode("latin-1"))
         return (f"{self.family}: image {self.image.length} ({self.image.factor}, {self.image.seed}) "
-                f"card {self.card.hex().upper()} work {LENGTH_WORDS[self.work]} text {len(text)}: {told} -> "
+                f"card {self.card.hex().upper()} work {LENGTH_WORDS[self.work]}, {self.fill.name}, "
+                f"text {len(text)}: {told} -> "
                 + checker.report(answer).replace("\t", " "))
 
 
@@ -227,12 +238,12 @@ NO_MORE_JOBS = bytes(HEADER)
 WORK_DIGESTS = {}
 
 
-def work_digest(code, seed):
+def work_digest(code, fill):
     """A refusal leaves the work area as it was."""
-    if (code, seed) not in WORK_DIGESTS:
-        area = ramp(sized(code, checker.WORK_SIZE), WORK_STEP, seed)
-        WORK_DIGESTS[code, seed] = f"{digest(area):08X}"
-    return WORK_DIGESTS[code, seed]
+    if (code, fill) not in WORK_DIGESTS:
+        area = ramp(sized(code, checker.WORK_SIZE), fill.step, fill.seed)
+        WORK_DIGESTS[code, fill] = f"{digest(area):08X}"
+    return WORK_DIGESTS[code, fill]
 
 
 def judged(job):
@@ -247,4 +258,4 @@ def judged(job):
 
 def printed(job, answer):
     line = checker.report(answer)
-    return f"{line}\t{work_digest(job.work, job.seed)}" if isinstance(answer, checker.Refusal) else line
+    return f"{line}\t{work_digest(job.work, job.fill)}" if isinstance(answer, checker.Refusal) else line

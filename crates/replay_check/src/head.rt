@@ -26,6 +26,7 @@ pub struct Job {
     pub work: usize,
     pub card: usize,
     pub work_seed: u8,
+    pub work_step: u8,
 }
 
 // A head taken apart. The bytes of a ramp are modulo 256, so that the low byte of its start will do.
@@ -61,6 +62,7 @@ pub(crate) fn job_of(header: &[u8; JOB]) -> Job {
         work,
         card,
         work_seed: header[40],
+        work_step: header[41],
     }
 }
 

@@ -18,8 +18,6 @@ const IMAGE_ROOM: usize = 17000;
 
 const WORK_ROOM: usize = 39000;
 
-const WORK_STEP: u8 = 3;
-
 // A proved loop has to end, and nothing says that a file does: more jobs than any file of ours has.
 const MOST_JOBS: u64 = 1000000;
 
@@ -43,7 +41,7 @@ fn prepare(job: Job, text: &[u8], rest: &[u8], image: &mut [u8], work: &mut [u8]
         return;
     }
     bytes::ramp(image, job.seed, job.factor);
-    bytes::ramp(work, job.work_seed, WORK_STEP);
+    bytes::ramp(work, job.work_seed, job.work_step);
     judge(text, image, &rest[0..card], work);
 }
 
