@@ -70,15 +70,23 @@ def plan_job(t):
 
 
 def traps(t):
-    # A command waits for GETSTATUS, and is lost by ABORT.
-    t.scene(pattern=0)
-    for value, given in ((0, MASS), (0, erase_page(FLASH.first)), (0, UNPROTECT), (0, set_pointer(RAM.first)),
-                         (2, b"\1\2")):
+    """The traps of document 01 in its words; the last one, about blank flash, is for the checker alone."""
+    # "Running a command at DNLOAD instead of GETSTATUS": it waits, and is lost by ABORT. An erase that comes too
+    # early shows only where flash is not blank, a write only where it is.
+    for pattern, options, value, given in (
+            (2, card(), 0, MASS), (2, card(), 0, erase_page(FLASH.first)), (2, card(), 0, UNPROTECT),
+            (2, card(protection=0x00), 0, UNPROTECT), (2, card(), 0, set_pointer(RAM.first)), (0, card(), 2, b"\1\2")):
+        t.scene(pattern, options=options)
         t.dnload(value, given)
         t.get_state()
         t.abort()
         t.get_status()
-    # A page that will not be written need not be blank; one that will be must, even for 0xFF.
+    # "Status 1 for a protected page": its erase, by any of its addresses, and its write report 0, and it stays.
+    t.scene(pattern=2, options=card(0xFFFD))
+    for value, given in ((0, erase_page(FLASH.first + PAGE)), (0, erase_page(FLASH.first + 2 * PAGE - 1)),
+                         (0, set_pointer(FLASH.first + PAGE)), (2, b"\1\2"), (0, MASS)):
+        t.do(value, given)
+    # "Testing erased bytes in pages that will not be written": one that will be written must be blank, even for 0xFF.
     for given in (b"\xFF\xFF", b"\x00\x00"):
         for mask in (0xFFFF, 0xFFFE):
             t.scene(pattern=1, options=card(mask))
