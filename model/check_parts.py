@@ -368,6 +368,16 @@ def unlocked(s):
                 s.add(options(between) + load(image) + go(), image, card_bytes)
 
 
+def locked_late(s):
+    """Pages locked between their erase and their write: the write is lost, though the page is known to be blank."""
+    for image in (SMALL, Image(1025, 5, 5), Image(1024, 0, 255)):
+        for mask in (0xFFFE, 0xFFFD, 0x0000):
+            erased = erase(*range(image.pages()))
+            writes = [event for page in range(image.pages()) for event in put(page * PAGE, *page_of(image, page))]
+            s.add(erased + options(card(mask)) + writes + options(DEFAULT_OPTIONS) + leave(), image)
+            s.add(erased + options(card(mask)) + writes + go(), image, card(mask))
+
+
 PROTECTED = (card(protection=0x00), card(0x0000, 0xAB, 0x11), card(0xFFFF, 0xFF, 0xAA), card(0x7FFE, 0x2A))
 
 
@@ -592,4 +602,4 @@ def sizes(s):
 PARTS = (bench_cases, plans, damaged_plans, changed_plans, wrong_bytes, rests, other_pages, unwritten, blank_only,
          mass_erases, block_orders, block_numbers, crossings, overlaps, reaches, addresses, reads, ram_writes,
          options_writes, unlocked, unprotects, damaged_unprotects, modes, dropped, endings, malformed, long_texts,
-         orders, sizes, random_jobs)
+         orders, sizes, random_jobs, locked_late)

@@ -93,7 +93,7 @@ def traps(t):
             t.do(2, given)
             t.scene(pattern=0, options=card(mask))
             t.do(2, given)
-            t.clear()
+            t.abort()
             t.do(2, given)
     # RAM and options are written over whatever they hold.
     t.scene(pattern=2)
