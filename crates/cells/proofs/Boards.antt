@@ -5,6 +5,7 @@ use mathlib.Core.Logic.{_⊎_, inl, inr}
 use mathlib.Core.List.{List, [], _∷_, _++_}
 use Prim.Native.Nat.{ℕ, zero, suc, _+_, _-_, _≤_, _<_}
 use native.Mathlib.Omega.{arith}
+use native.Mathlib.Nat.{add-zero}
 use native.Mathlib.Nat.{zero-add}
 use lib.Dec.{eqb, ltb}
 use lib.ListN.{length, drop, getD, replicate, length-append, length-replicate, getD-replicate, List·getD-append}
@@ -19,7 +20,7 @@ use Rattle.device.specs.State.{started}
 use Rattle.hex.specs.Hex.{allBytes}
 use Rattle.verdict.specs.World.{World, Fresh}
 use Rattle.verdict.specs.Checked.{workBytes}
-use Rattle.cells.specs.Cells.{known, learnt, begun}
+use Rattle.cells.specs.Cells.{known, marked, learnt, begun}
 use Rattle.cells.proofs.Learnt.{learnt-length, learnt-known, learnt-value, learnt-known-outside}
 use Rattle.cells.proofs.Likeness.{Alike}
 use Rattle.cells.proofs.Events.{Stands}
@@ -50,8 +51,8 @@ module _ (n : ℕ) (card w : List ℕ) (lw : length w ≡ workBytes n) (lc : len
   ends = omega arith
 
   begun-is : begun n card w ≡ learnt n (optionsFrom n) card bare
-  unfolding begun bare
-  begun-is = refl
+  unfolding begun bare marked
+  begun-is = rw (add-zero (memoryBytes n))
 
   pub fresh-alike : (x : World) → Fresh n card x → Alike n (x .memory) (x .memory) (begun n card w)
   fresh-alike x f =

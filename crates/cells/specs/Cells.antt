@@ -41,13 +41,13 @@ blockFrom n = memoryBytes n + memoryBytes n
 abbrev pub known : ℕ → List ℕ → ℕ → Bool
 known n w i = eqb (getD w (memoryBytes n + i) 0) 1
 
--- `count` bytes from place `from` on become known
-unfoldable pub marked : ℕ → ℕ → ℕ → List ℕ → List ℕ
-marked n from count w = filled (memoryBytes n + from) count 1 w
+-- the marks of `count` bytes from place `from` on: 1 where they are known, else 0
+unfoldable pub marked : ℕ → ℕ → ℕ → ℕ → List ℕ → List ℕ
+marked n from count mark w = filled (memoryBytes n + from) count mark w
 
 -- the values xs from place `from` on, known
 unfoldable pub learnt : ℕ → ℕ → List ℕ → List ℕ → List ℕ
-learnt n from xs w = marked n from (length xs) (put from xs w)
+learnt n from xs w = marked n from (length xs) 1 (put from xs w)
 
 -- the erased test passes on every board: each byte that will be written is known, and erased
 unfoldable pub surely : ℕ → ℕ → ℕ → ℕ → List ℕ → Bool
@@ -176,7 +176,7 @@ overVerdict n image card (ended d w) = endVerdict n image card d w
 
 -- what is known at the start: the options, and nothing else
 unfoldable pub begun : ℕ → List ℕ → List ℕ → List ℕ
-begun n card w = learnt n (optionsFrom n) card (filled (memoryBytes n) (memoryBytes n) 0 w)
+begun n card w = learnt n (optionsFrom n) card (marked n 0 (memoryBytes n) 0 w)
 
 unfoldable pub verdictOf : ℕ → List Event → List ℕ → List ℕ → List ℕ → Verdict
 verdictOf n es image card w = overVerdict n image card (overOf n es started (begun n card w) 0)

@@ -47,7 +47,7 @@ module _ (n word at count : ℕ) (w : List ℕ) where
   writes-sure w′ b k e = rw (b, k, e)
 
 -- bytes laid, and as many marks
-pub kept-is : (n at count : ℕ) (xs w w₁ w₂ : List ℕ) → length xs ≡ count → w₁ ≡ put at xs w → w₂ ≡ marked n at (at + count - at) w₁ → w₂ ≡ learnt n at xs w
+pub kept-is : (n at count : ℕ) (xs w w₁ w₂ : List ℕ) → length xs ≡ count → w₁ ≡ put at xs w → w₂ ≡ marked n at (at + count - at) 1 w₁ → w₂ ≡ learnt n at xs w
 unfolding learnt
 kept-is n at count xs w w₁ w₂ l a b =
     let k : at + count - at ≡ length xs = omega arith in
@@ -82,7 +82,7 @@ field-past ds i h =
     List·getD-eq-default (bytesOf ds) 0 l
 
 -- the whole memory, learnt from a part that was lent
-pub whole-is : (n bytes : ℕ) (w w₁ w₂ : List ℕ) → bytes ≡ memoryBytes n → length (unprotected n) ≡ memoryBytes n → w₁ ≡ put 0 (unprotected n) w → w₂ ≡ marked n 0 (bytes - 0) w₁ → w₂ ≡ learnt n 0 (unprotected n) w
+pub whole-is : (n bytes : ℕ) (w w₁ w₂ : List ℕ) → bytes ≡ memoryBytes n → length (unprotected n) ≡ memoryBytes n → w₁ ≡ put 0 (unprotected n) w → w₂ ≡ marked n 0 (bytes - 0) 1 w₁ → w₂ ≡ learnt n 0 (unprotected n) w
 unfolding learnt
 whole-is n bytes w w₁ w₂ e l a b =
     let k : bytes - 0 ≡ length (unprotected n) = omega arith in

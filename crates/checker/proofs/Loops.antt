@@ -63,9 +63,9 @@ erase-end n word w page e h =
     rw k
 
 -- marks, by the place where they begin
-pub mark-is : (n from to marks : ℕ) (w w′ : List ℕ) → marks ≡ memoryBytes n → w′ ≡ filled (marks + from) (marks + to - (marks + from)) 1 w → w′ ≡ marked n from (to - from) w
+pub mark-is : (n from to known marks : ℕ) (w w′ : List ℕ) → marks ≡ memoryBytes n → w′ ≡ filled (marks + from) (marks + to - (marks + from)) known w → w′ ≡ marked n from (to - from) known w
 unfolding marked
-mark-is n from to marks w w′ m e =
+mark-is n from to known marks w w′ m e =
     let k : marks + to - (marks + from) ≡ to - from = omega arith in
     e ∙ rw (k, m)
 
@@ -74,14 +74,14 @@ unfolding pageErased
 page-kept n word page w e = rw e
 
 -- values laid and marked
-pub learnt-is : (n from count v : ℕ) (w w₁ w₂ : List ℕ) → w₁ ≡ filled from (from + count - from) v w → w₂ ≡ marked n from (from + count - from) w₁ → w₂ ≡ learnt n from (replicate count v) w
+pub learnt-is : (n from count v : ℕ) (w w₁ w₂ : List ℕ) → w₁ ≡ filled from (from + count - from) v w → w₂ ≡ marked n from (from + count - from) 1 w₁ → w₂ ≡ learnt n from (replicate count v) w
 unfolding learnt filled
 learnt-is n from count v w w₁ w₂ a b =
     let k : from + count - from ≡ count = omega arith in
     let l : length (replicate count v) ≡ count = length-replicate {A = ℕ} count v in
     b ∙ rw (a, k, l)
 
-pub page-open : (n word page : ℕ) (w w₁ w₂ : List ℕ) → writeProtected word page ≡ false → w₁ ≡ filled (page * pageBytes) (page * pageBytes + pageBytes - page * pageBytes) 0xFF w → w₂ ≡ marked n (page * pageBytes) (page * pageBytes + pageBytes - page * pageBytes) w₁ → w₂ ≡ pageErased n word page w
+pub page-open : (n word page : ℕ) (w w₁ w₂ : List ℕ) → writeProtected word page ≡ false → w₁ ≡ filled (page * pageBytes) (page * pageBytes + pageBytes - page * pageBytes) 0xFF w → w₂ ≡ marked n (page * pageBytes) (page * pageBytes + pageBytes - page * pageBytes) 1 w₁ → w₂ ≡ pageErased n word page w
 unfolding pageErased
 page-open n word page w w₁ w₂ p a b = rw p (learnt-is n (page * pageBytes) pageBytes 0xFF w w₁ w₂ a b)
 

@@ -46,13 +46,13 @@ fn block_from(board: Board) -> usize
     board.memory_bytes() * 2
 }
 
-// The bytes from place `from` up to place `to` are known from now on.
-fn mark(board: Board, work: &mut [u8], from: usize, to: usize)
+// The marks of the bytes from place `from` up to place `to`: 1 where they are known, else 0.
+fn mark(board: Board, work: &mut [u8], from: usize, to: usize, known: u8)
     requires { ⌜ (from ≤ to) × (to ≤ memoryBytes (board .pages)) × (length (now work) ≡ workBytes (board .pages)) ⌝ }
-    ensures { λ _. ⌜ now (work .exit) ≡ marked (board .pages) from (to - from) (now (work .entry)) ⌝ }
+    ensures { λ _. ⌜ now (work .exit) ≡ marked (board .pages) from (to - from) known (now (work .entry)) ⌝ }
 {
     let marks = board.memory_bytes();
-    buffer::fill(work, marks + from, marks + to, 1);
+    buffer::fill(work, marks + from, marks + to, known);
 }
 
 // Is each of `count` bytes from place `at` on known, but for those in write-protected pages?
@@ -83,7 +83,7 @@ fn erase(board: Board, work: &mut [u8], word: u32, page: usize)
     let from = page * Board::PAGE;
     let to = from + Board::PAGE;
     buffer::fill(work, from, to, 0xFF);
-    mark(board, work, from, to);
+    mark(board, work, from, to, 1);
 }
 
 fn erase_all(board: Board, work: &mut [u8], word: u32)
@@ -147,7 +147,7 @@ fn keep(board: Board, work: &mut [u8], at: usize, count: usize)
     ensures { λ _. ⌜ now (work .exit) ≡ learnt (board .pages) at (blockOf (board .pages) count (now (work .entry))) (now (work .entry)) ⌝ }
 {
     copy(board, work, at, count);
-    mark(board, work, at, at + count);
+    mark(board, work, at, at + count, 1);
 }
 
 // Read unprotect of a protected board: all of memory is known then.
@@ -157,7 +157,7 @@ fn unprotect(board: Board, work: &mut [u8])
 {
     let bytes = board.memory_bytes();
     memory::unprotect(board, &mut work[0..bytes]);
-    mark(board, work, 0, bytes);
+    mark(board, work, 0, bytes, 1);
 }
 
 fn clear_ram(board: Board, work: &mut [u8])
@@ -167,7 +167,7 @@ fn clear_ram(board: Board, work: &mut [u8])
     let from = board.ram_from();
     let to = from + Board::RAM_BYTES;
     buffer::fill(work, from, to, 0);
-    mark(board, work, from, to);
+    mark(board, work, from, to, 1);
 }
 
 // An action on every board; the answer is its status.
@@ -314,11 +314,10 @@ fn begin(board: Board, card: &[u8], work: &mut [u8])
     requires { ⌜ (length (now work) ≡ workBytes (board .pages)) × (length (now card) ≡ optionBytes) ⌝ }
     ensures { λ _. ⌜ now (work .exit) ≡ begun (board .pages) (now (card .entry)) (now (work .entry)) ⌝ }
 {
-    let bytes = board.memory_bytes();
     let options = board.options_from();
-    buffer::fill(work, bytes, bytes + bytes, 0);
+    mark(board, work, 0, board.memory_bytes(), 0);
     buffer::put(work, options, card);
-    mark(board, work, options, options + Board::OPTION_BYTES);
+    mark(board, work, options, options + Board::OPTION_BYTES, 1);
 }
 
 // Can flash offset f be wrong on some board?

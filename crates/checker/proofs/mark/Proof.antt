@@ -20,7 +20,7 @@ same-length : tie.Need-same-length
 same-length c = search needs
 
 returns : tie.Need-returns
-returns c = mark-is _ _ _ _ _ _ (c .before .before .before .before .memory-bytes .ensures) (c .before .before .fill .ensures)
+returns c = mark-is _ _ _ _ _ _ _ (c .before .before .before .before .memory-bytes .ensures) (c .before .before .fill .ensures)
 
 pub mark-spec : {M : Type 1} → statement M
 mark-spec =
