@@ -4,6 +4,8 @@
    whether that value is known, that is, the same on every board; flash and RAM begin as unknown.
    Like the document's checker it works in an area of 38,944 bytes, which a refusal leaves as it was. */
 
+#define _POSIX_C_SOURCE 200809L
+
 #include <fcntl.h>
 #include <stdbool.h>
 #include <stddef.h>
@@ -164,7 +166,7 @@ static unsigned protection(const struct work *work)
     return work->value[OPTIONS_AT + 8] | (unsigned)work->value[OPTIONS_AT + 9] << 8;
 }
 
-static bool write_protected(unsigned protection, unsigned page)
+static bool write_protected(unsigned protection, size_t page)
 {
     return (protection >> page & 1) == 0;
 }
@@ -202,7 +204,7 @@ static void learn(struct work *work, size_t at, size_t count, uint8_t byte)
     memset(work->known + at, 1, count);
 }
 
-static void erase_page(struct work *work, unsigned page)
+static void erase_page(struct work *work, size_t page)
 {
     if (!write_protected(protection(work), page))
         learn(work, page * PAGE, PAGE, ERASED);
@@ -216,18 +218,25 @@ static bool erased_everywhere(const struct work *work, size_t at, size_t count)
     return wrong == 0;
 }
 
-/* Writes the block to flash, page by page; the bytes were unknown or not erased where the answer is false. */
+/* The end of the part of a span that lies in the page of its first byte. */
+static size_t part_end(size_t from, size_t end)
+{
+    size_t next_page = (from / PAGE + 1) * PAGE;
+    return next_page < end ? next_page : end;
+}
+
+/* Writes the block to flash but for write-protected pages; false where some board has another byte than 0xFF there. */
 static bool write_flash(struct work *work, size_t at, size_t count)
 {
     unsigned bits = protection(work);
     size_t end = at + count;
     for (size_t from = at, to; from < end; from = to) {
-        to = (from / PAGE + 1) * PAGE < end ? (from / PAGE + 1) * PAGE : end;
+        to = part_end(from, end);
         if (!write_protected(bits, from / PAGE) && !erased_everywhere(work, from, to - from))
             return false;
     }
     for (size_t from = at, to; from < end; from = to) {
-        to = (from / PAGE + 1) * PAGE < end ? (from / PAGE + 1) * PAGE : end;
+        to = part_end(from, end);
         if (!write_protected(bits, from / PAGE))
             memcpy(work->value + from, work->block + (from - at), to - from);
     }
@@ -280,7 +289,7 @@ static bool perform(struct device *device, struct work *work)
     case ERASE_ALL:
         if (read_protected(work))
             return false;
-        for (unsigned page = 0; page < PAGES; page++)
+        for (size_t page = 0; page < PAGES; page++)
             erase_page(work, page);
         return true;
     case UNPROTECT:
@@ -490,6 +499,7 @@ int main(int argc, char **argv)
         verdict = refused(13, 0);
     else
         verdict = check(text, (size_t)text_bytes, image, (size_t)image_bytes, card, (size_t)card_bytes, &work);
-    printf("%s\t%u\t%zu\n", verdict.word, verdict.kind, verdict.number);
-    return 0;
+    char line[64];
+    int length = snprintf(line, sizeof line, "%s\t%u\t%zu\n", verdict.word, verdict.kind, verdict.number);
+    return write(STDOUT_FILENO, line, (size_t)length) == length ? 0 : 1;
 }

@@ -21,7 +21,7 @@ void qemu_plugin_outs(const char *);
 
 int qemu_plugin_version = 1;
 
-enum { STACK_LIMIT = 8 << 20 };
+enum { STACK_LIMIT = 4 << 20 };
 static uint64_t instructions, top, bottom;
 
 /* The first thing that a program touches is its stack. */
