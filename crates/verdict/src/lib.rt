@@ -102,7 +102,7 @@ fn digit(number: usize) -> u8
 }
 
 // Writes a number and the byte that ends its field into `out` from place `at` on, and gives the place behind them.
-fn write_field(number: usize, stop: u8, out: &mut [u8], at: usize) -> usize
+pub fn write_field(number: usize, stop: u8, out: &mut [u8], at: usize) -> usize
     requires { ⌜ at + length (decimalOf number) < length (now out) ⌝ }
     ensures { λ r. ⌜ (now (out .exit) ≡ put at (decimalOf number ++ (stop ∷ [])) (now (out .entry))) × (r ≡ at + length (decimalOf number) + 1) ⌝ }
 {

@@ -1,0 +1,72 @@
+-- What each word for people is, and what writing it leaves. Names by document 01, "The board" and "Events". Assumes nothing.
+use mathlib.Core.Bool.{cond}
+use mathlib.Core.List.{List, [] as none, _∷_ as _then_, _++_}
+use Prim.Native.Nat.{ℕ, _+_, _-_, _/_, _%_}
+use Prim.Native.Char.{code}
+use Prim.Native.String.{String, [], _∷_}
+use lib.Dec.{eqb}
+use lib.ListN.{length, take}
+use Rattle.laws.specs.Bytes.{put}
+use Rattle.request.specs.declared.Request.{Request}
+use Rattle.request.specs.declared.Request.the-variants as request
+use Rattle.device.specs.declared.Mode.{Mode}
+use Rattle.device.specs.declared.Mode.the-variants as mode
+use Rattle.device.specs.Wire.{errTARGET, errWRITE, errVENDOR, errSTALLEDPKT}
+use Rattle.hex.specs.Hex.{hexOf}
+use Rattle.verdict.specs.Report.{decimalOf}
+
+-- what a call leaves: the place behind its words, and the buffer
+pub record Said : Type 0 where
+  pub place : ℕ
+  pub out : List ℕ
+
+abbrev pub left : ℕ → List ℕ → Said
+left place out = record { place = place; out = out }
+
+-- as much of xs as there is room for goes over the bytes from place `at` on
+unfoldable pub saidOf : List ℕ → List ℕ → ℕ → Said
+saidOf xs out at = left (at + length (take (length out - at) xs)) (put at (take (length out - at) xs) out)
+
+-- a text's letters as bytes
+abbrev pub ascii : String → List ℕ
+ascii [] = none
+ascii (c ∷ s) = code c then ascii s
+
+-- the requests, by the names of the table in "Events"
+abbrev pub requestName : Request → List ℕ
+requestName request.Download = ascii "DNLOAD"
+requestName request.Upload = ascii "UPLOAD"
+requestName request.GetStatus = ascii "GETSTATUS"
+requestName request.ClearStatus = ascii "CLRSTATUS"
+requestName request.GetState = ascii "GETSTATE"
+requestName request.Abort = ascii "ABORT"
+requestName request.Unknown = ascii "a request that the loader does not know"
+
+-- "Modes: 2 dfuIDLE, .."
+abbrev pub modeName : Mode → List ℕ
+modeName mode.Idle = ascii "dfuIDLE"
+modeName mode.DownloadSync = ascii "dfuDNLOAD-SYNC"
+modeName mode.DownloadBusy = ascii "dfuDNBUSY"
+modeName mode.DownloadIdle = ascii "dfuDNLOAD-IDLE"
+modeName mode.ManifestSync = ascii "dfuMANIFEST-SYNC"
+modeName mode.UploadIdle = ascii "dfuUPLOAD-IDLE"
+modeName mode.Error = ascii "dfuERROR"
+modeName mode.Left = ascii "left"
+modeName mode.Rebooting = ascii "rebooting"
+
+-- the statuses that the loader gives, by name; any other by its number
+abbrev pub statusName : ℕ → List ℕ
+statusName n =
+    cond (eqb n 0) (ascii "OK")
+    (cond (eqb n errTARGET) (ascii "errTARGET")
+    (cond (eqb n errWRITE) (ascii "errWRITE")
+    (cond (eqb n errVENDOR) (ascii "errVENDOR")
+    (cond (eqb n errSTALLEDPKT) (ascii "errSTALLEDPKT") (decimalOf n)))))
+
+-- the four bytes of a 32-bit number, high byte first
+abbrev pub highFirst : ℕ → List ℕ
+highFirst x = x / 16777216 then x / 65536 % 256 then x / 256 % 256 then x % 256 then none
+
+-- 0x and eight hexadecimal digits
+abbrev pub addressOf : ℕ → List ℕ
+addressOf x = ascii "0x" ++ hexOf (highFirst x)
