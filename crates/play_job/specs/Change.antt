@@ -1,0 +1,11 @@
+-- Where two memories differ. Assumes nothing.
+use mathlib.Core.Bool.{cond}
+use mathlib.Core.List.{List}
+use Prim.Native.Nat.{ℕ, zero, suc}
+use lib.Dec.{eqb}
+use lib.ListN.{getD}
+
+-- of so many places from place i on, the lowest where the two differ, or the place behind them
+unfoldable pub firstOf : List ℕ → List ℕ → ℕ → ℕ → ℕ
+firstOf old new zero i = i
+firstOf old new (suc n) i = cond (eqb (getD old i 0) (getD new i 0)) (firstOf old new n (suc i)) i
