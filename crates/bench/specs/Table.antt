@@ -1,35 +1,26 @@
 -- The bench cases marked P. Document 01, "Bench cases". Assumes nothing.
 use mathlib.Core.List.{List, [], _∷_, _++_}
-use Prim.Native.Nat.{ℕ, _/_, _%_}
-use lib.ListN.{length, replicate}
+use Prim.Native.Nat.{ℕ}
+use lib.ListN.{replicate}
 use Rattle.laws.specs.Bytes.{put, filled}
 use Rattle.board.specs.Layout.{defaults}
+use Rattle.request.specs.Spelled.{four, downloading, gettingStatus, clearingStatus}
 use Rattle.device.specs.declared.Mode.{Mode}
 use Rattle.device.specs.declared.Mode.the-variants.{Idle, DownloadSync, DownloadBusy, Error, Rebooting}
 use Rattle.verdict.specs.declared.Verdict.the-variants.{End}
 use Rattle.bench.specs.Case.{Finding, locate, ask, check, address, state, judgement, Case, _⇒_}
 
--- requests of document 01, "Events"
-abbrev pub download : ℕ → List ℕ → List ℕ
-download value xs = 0x21 ∷ 1 ∷ value ∷ 0 ∷ 0 ∷ 0 ∷ length xs % 0x100 ∷ length xs / 0x100 ∷ xs
-
-abbrev pub getStatus : List ℕ
-getStatus = 0xA1 ∷ 3 ∷ 0 ∷ 0 ∷ 0 ∷ 0 ∷ 6 ∷ 0 ∷ []
-
-abbrev pub clearStatus : List ℕ
-clearStatus = 0x21 ∷ 4 ∷ 0 ∷ 0 ∷ 0 ∷ 0 ∷ 0 ∷ 0 ∷ []
-
 -- a command with an address: "four address bytes, low first"
 abbrev pub command : ℕ → ℕ → List ℕ
-command code at = download 0 (code ∷ at % 0x100 ∷ at / 0x100 % 0x100 ∷ at / 0x10000 % 0x100 ∷ at / 0x1000000 ∷ [])
+command code at = downloading 0 (code ∷ four at)
 
 -- erase the page at an address
 abbrev pub erase : ℕ → List (List ℕ)
-erase at = command 0x41 at ∷ getStatus ∷ []
+erase at = command 0x41 at ∷ gettingStatus ∷ []
 
 -- set the pointer to an address, and write bytes there
 abbrev pub write : ℕ → List ℕ → List (List ℕ)
-write at xs = command 0x21 at ∷ getStatus ∷ getStatus ∷ download 2 xs ∷ getStatus ∷ []
+write at xs = command 0x21 at ∷ gettingStatus ∷ gettingStatus ∷ downloading 2 xs ∷ gettingStatus ∷ []
 
 -- memory with one byte all over flash and RAM, then the options
 abbrev pub memory : ℕ → List ℕ → List ℕ
@@ -61,7 +52,7 @@ abbrev pub table : List Case
 table =
     -- P: pointer 0x08000000, wValue 3, length 512: address 0x08000200.
     (locate 3 512 0x08000000 ⇒ address 0x08000200 ∷
-    ask (download 3 (replicate 512 0x5A) ∷ getStatus ∷ []) blank ⇒ done DownloadBusy (put 0x200 (replicate 512 0x5A) blank) ∷ []) ∷
+    ask (downloading 3 (replicate 512 0x5A) ∷ gettingStatus ∷ []) blank ⇒ done DownloadBusy (put 0x200 (replicate 512 0x5A) blank) ∷ []) ∷
     -- P: write of 2,048 at 0x08003800 is in range; at 0x08003802 status 1.
     (ask (write 0x08003800 (replicate 2048 0x5A)) blank ⇒ done DownloadBusy (put 0x3800 (replicate 2048 0x5A) blank) ∷
     ask (write 0x08003802 (replicate 2048 0x5A)) blank ⇒ failed 1 blank ∷ []) ∷
@@ -74,13 +65,13 @@ table =
     -- P: card byte 8 = 0xFE; erase page at 0x08000000 reports 0 and changes no memory byte.
     (ask (erase 0x08000000) guarded ⇒ done DownloadBusy guarded ∷ []) ∷
     -- P: the same card, page 1 erased, four bytes at 0x080003FE: only the last two are stored.
-    (ask (erase 0x08000400 ++ (getStatus ∷ write 0x080003FE (1 ∷ 2 ∷ 3 ∷ 4 ∷ []))) guarded ⇒ done DownloadBusy (put 0x400 (3 ∷ 4 ∷ []) (filled 0x400 1024 0xFF guarded)) ∷ []) ∷
+    (ask (erase 0x08000400 ++ (gettingStatus ∷ write 0x080003FE (1 ∷ 2 ∷ 3 ∷ 4 ∷ []))) guarded ⇒ done DownloadBusy (put 0x400 (3 ∷ 4 ∷ []) (filled 0x400 1024 0xFF guarded)) ∷ []) ∷
     -- P: DNLOAD in mode 2, wValue 2: wLength 2,048 accepted, 2,049 stalls.
-    (ask (download 2 (replicate 2048 0x5A) ∷ []) blank ⇒ accepted DownloadSync blank ∷
-    ask (download 2 (replicate 2049 0x5A) ∷ []) blank ⇒ stalled blank ∷ []) ∷
+    (ask (downloading 2 (replicate 2048 0x5A) ∷ []) blank ⇒ accepted DownloadSync blank ∷
+    ask (downloading 2 (replicate 2049 0x5A) ∷ []) blank ⇒ stalled blank ∷ []) ∷
     -- P: empty job: End 1.
     (check [] (0x5A ∷ []) defaults ⇒ judgement (End 1) ∷ []) ∷
     -- P: CLRSTATUS in mode 2 stalls, in mode 10 gives mode 2.
-    (ask (clearStatus ∷ []) blank ⇒ stalled blank ∷
-    ask (clearStatus ∷ clearStatus ∷ []) blank ⇒ accepted Idle blank ∷ []) ∷
+    (ask (clearingStatus ∷ []) blank ⇒ stalled blank ∷
+    ask (clearingStatus ∷ clearingStatus ∷ []) blank ⇒ accepted Idle blank ∷ []) ∷
     []

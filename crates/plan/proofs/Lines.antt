@@ -9,7 +9,8 @@ use Rattle.laws.proofs.Split.{by-eq}
 use Rattle.board.specs.Layout.{pageBytes, flashFirst}
 use Rattle.job.specs.Event.{Event, request, lineOf, textOf}
 use Rattle.job.proofs.SpellSize.{line-length-of}
-use Rattle.plan.specs.Plan.{four, download, getStatus, polled, pageAddress, erasePage, setPointer, padded, pageOf}
+use Rattle.request.specs.Spelled.{four}
+use Rattle.plan.specs.Plan.{download, getStatus, polled, pageAddress, erasePage, setPointer, padded, pageOf}
 use Rattle.plan.specs.Parts.{polledText, pageText, leavingText, statusBytes, sentBytes, leavingBytes, paddedLength, pageLines}
 
 -- a request's line, from what the writer of the line asks for and promises

@@ -33,7 +33,8 @@ use Rattle.action.specs.Action.{actionIn, actionOf, movedOf, rebootsOf}
 use Rattle.memory.specs.Flash.{stored}
 use Rattle.job.specs.Event.{Event}
 use Rattle.cells.specs.Cells.{blockFrom, blockOf, surely, pageErased, worked, workedOf, goes, statusMoves, decisionMoves, requestMoves, moves, overOf}
-use Rattle.plan.specs.Plan.{two, four, download, getStatus, polled, pageAddress, erasePage, setPointer}
+use Rattle.request.specs.Spelled.{two, four}
+use Rattle.plan.specs.Plan.{download, getStatus, polled, pageAddress, erasePage, setPointer}
 
 -- a device with nothing pending, and one that waits to run a command
 abbrev pub resting : Mode → ℕ → Device

@@ -1,11 +1,12 @@
 -- The plan of an image. Document 01, "The checker and the plan", last paragraph, and the rows of "Refusal numbers" that name the plan. Assumes nothing.
 use mathlib.Core.Bool.{Bool, false, cond, _||_}
 use mathlib.Core.List.{List, [], _∷_, _++_}
-use Prim.Native.Nat.{ℕ, zero, suc, _+_, _-_, _*_, _/_, _%_}
+use Prim.Native.Nat.{ℕ, zero, suc, _+_, _-_, _*_, _/_}
 use lib.Dec.{eqb}
 use lib.ListN.{length, take, drop}
 use Rattle.board.specs.Layout.{pageBytes, flashFirst}
 use Rattle.board.specs.Protection.{lockedFrom, wordFrom, writeProtected}
+use Rattle.request.specs.Spelled.{four, downloading, gettingStatus}
 use Rattle.refusal.specs.declared.Refusal.the-variants.{Protected}
 use Rattle.loader.specs.declared.Admission.{Admission}
 use Rattle.loader.specs.declared.Admission.the-variants as admission
@@ -14,19 +15,12 @@ use Rattle.job.specs.Event.{Event, request, textOf}
 use Rattle.job.specs.Calls.{Outcome, left, delivered}
 use Rattle.verdict.specs.Checked.{supplied, then}
 
--- a number in two bytes and in four, low byte first
-abbrev pub two : ℕ → List ℕ
-two x = x % 256 ∷ x / 256 % 256 ∷ []
-
-abbrev pub four : ℕ → List ℕ
-four x = x % 256 ∷ x / 256 % 256 ∷ x / 65536 % 256 ∷ x / 16777216 % 256 ∷ []
-
--- DNLOAD of the data xs with this wValue
+-- DNLOAD of the data xs with this wValue; GETSTATUS
 abbrev pub download : ℕ → List ℕ → Event
-download value xs = request (0x21 ∷ 1 ∷ (two value ++ (0 ∷ 0 ∷ (two (length xs) ++ xs))))
+download value xs = request (downloading value xs)
 
 abbrev pub getStatus : Event
-getStatus = request (0xA1 ∷ 3 ∷ 0 ∷ 0 ∷ 0 ∷ 0 ∷ 6 ∷ 0 ∷ [])
+getStatus = request gettingStatus
 
 -- "each followed by two GETSTATUS"
 abbrev pub polled : Event → List Event → List Event

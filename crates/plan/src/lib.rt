@@ -12,7 +12,8 @@ ghost use Rattle.laws.specs.Bytes.{put};
 ghost use Rattle.board.specs.Layout.{loggerPages, pageBytes};
 ghost use Rattle.job.specs.Event.{request, lineOf};
 ghost use Rattle.job.specs.Calls.{left};
-ghost use Rattle.plan.specs.Plan.{four, download, getStatus, padded, pagesOf, planOf, anyProtected, barred, planned};
+ghost use Rattle.request.specs.Spelled.{four};
+ghost use Rattle.plan.specs.Plan.{download, getStatus, padded, pagesOf, planOf, anyProtected, barred, planned};
 ghost use Rattle.plan.specs.Parts.{polledText, pageText, leavingText, Laid, statusBytes, sentBytes, leavingBytes, paddedLength, pageLines, mostBytes};
 
 // The command bytes of a DNLOAD with wValue 0: set pointer and erase page.

@@ -3,17 +3,18 @@ use mathlib.Core.Bool.{cond}
 use mathlib.Core.List.{List, [], _∷_, _++_}
 use Prim.Native.Nat.{ℕ, zero, suc, _+_, _/_, _%_}
 use lib.Dec.{ltb}
+use Rattle.laws.specs.Ascii.{ascii}
 use Rattle.refusal.specs.Refusal as refusal
 use Rattle.verdict.specs.declared.Verdict.{Verdict}
 use Rattle.verdict.specs.declared.Verdict.the-variants as verdict
 
 -- "word": `ACCEPT` for Pass, `REFUSE` for a refusal, else `REJECT`
 abbrev pub wordOf : Verdict → List ℕ
-wordOf verdict.Pass = 65 ∷ 67 ∷ 67 ∷ 69 ∷ 80 ∷ 84 ∷ []
-wordOf (verdict.Event k) = 82 ∷ 69 ∷ 74 ∷ 69 ∷ 67 ∷ 84 ∷ []
-wordOf (verdict.End c) = 82 ∷ 69 ∷ 74 ∷ 69 ∷ 67 ∷ 84 ∷ []
-wordOf (verdict.Flash f) = 82 ∷ 69 ∷ 74 ∷ 69 ∷ 67 ∷ 84 ∷ []
-wordOf (verdict.Refused r) = 82 ∷ 69 ∷ 70 ∷ 85 ∷ 83 ∷ 69 ∷ []
+wordOf verdict.Pass = ascii "ACCEPT"
+wordOf (verdict.Event k) = ascii "REJECT"
+wordOf (verdict.End c) = ascii "REJECT"
+wordOf (verdict.Flash f) = ascii "REJECT"
+wordOf (verdict.Refused r) = ascii "REFUSE"
 
 -- "kind": 0; 1, 2, 3; a refusal's number
 abbrev pub kindOf : Verdict → ℕ

@@ -1,11 +1,10 @@
 -- What each word for people is, and what writing it leaves. Names by document 01, "The board" and "Events". Assumes nothing.
 use mathlib.Core.Bool.{cond}
-use mathlib.Core.List.{List, [] as none, _∷_ as _then_, _++_}
+use mathlib.Core.List.{List, [], _∷_, _++_}
 use Prim.Native.Nat.{ℕ, _+_, _-_, _/_, _%_}
-use Prim.Native.Char.{code}
-use Prim.Native.String.{String, [], _∷_}
 use lib.Dec.{eqb}
 use lib.ListN.{length, take}
+use Rattle.laws.specs.Ascii.{ascii}
 use Rattle.laws.specs.Bytes.{put}
 use Rattle.request.specs.declared.Request.{Request}
 use Rattle.request.specs.declared.Request.the-variants as request
@@ -26,11 +25,6 @@ left place out = record { place = place; out = out }
 -- as much of xs as there is room for goes over the bytes from place `at` on
 unfoldable pub saidOf : List ℕ → List ℕ → ℕ → Said
 saidOf xs out at = left (at + length (take (length out - at) xs)) (put at (take (length out - at) xs) out)
-
--- a text's letters as bytes
-abbrev pub ascii : String → List ℕ
-ascii [] = none
-ascii (c ∷ s) = code c then ascii s
 
 -- the requests, by the names of the table in "Events"
 abbrev pub requestName : Request → List ℕ
@@ -65,7 +59,7 @@ statusName n =
 
 -- the four bytes of a 32-bit number, high byte first
 abbrev pub highFirst : ℕ → List ℕ
-highFirst x = x / 16777216 then x / 65536 % 256 then x / 256 % 256 then x % 256 then none
+highFirst x = x / 16777216 ∷ x / 65536 % 256 ∷ x / 256 % 256 ∷ x % 256 ∷ []
 
 -- 0x and eight hexadecimal digits
 abbrev pub addressOf : ℕ → List ℕ
