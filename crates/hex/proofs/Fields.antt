@@ -1,20 +1,20 @@
 -- Laws of a field: its length, its digits and bytes by place, and that field and bytes undo each other. Assumes nothing.
 use mathlib.Core.Path.{_≡_, refl, ap₂, _∙_, sym}
-use mathlib.Core.Bool.{true, false, _&&_}
+use mathlib.Core.Bool.{true, false, cond, _&&_}
 use mathlib.Core.List.{List, [], _∷_}
 use Prim.Native.Nat.{ℕ, zero, suc, _+_, _*_, _/_, _%_, _≤_, _<_}
 use native.Mathlib.Omega.{arith}
 use native.Mathlib.Numerals.{add-one, add-two}
-use lib.Dec.{ltb}
+use lib.Dec.{ltb, eqb}
 use lib.ListN.{length, drop, getD, set, drop-of-length-le}
 use lib.Seq.{drop-cons, sets}
-use borrow.Author.Tests.{lt-ltb, le-ltb, ltb-true}
+use borrow.Author.Tests.{lt-ltb, le-ltb, ltb-true, ne-eqb}
 use Rattle.laws.specs.Bytes.{put}
 use Rattle.laws.proofs.Append.{put-over}
 use Rattle.laws.proofs.Bytes.{sets-turn, sets-end, sets-put}
-use Rattle.laws.proofs.Split.{and-true}
-use Rattle.hex.specs.Hex.{valueOf, digitOf, byteOf, allDigits, bytesOf, hexOf, allBytes}
-use Rattle.hex.proofs.OneDigit.{value-digit, byte-digits, byte-high, byte-low, byte-small}
+use Rattle.laws.proofs.Split.{by-lt, and-true, and-right-false, and-right-true}
+use Rattle.hex.specs.Hex.{valueOf, digitOf, byteOf, faultOf, allDigits, bytesOf, hexOf, allBytes}
+use Rattle.hex.proofs.OneDigit.{value-digit, byte-digits, byte-high, byte-low, byte-small, fault-none, fault-one}
 
 pub hex-length : (xs : List ℕ) → length (hexOf xs) ≡ length xs * 2
 unfolding hexOf
@@ -78,18 +78,24 @@ hex-bytes (d ∷ e ∷ ds) h k =
     let m : length ds % 2 ≡ 0 = omega arith in
     rw (byte-high d e a b, byte-low d e a b, hex-bytes ds (q .1) m)
 
--- a turn of a loop over a field's digits, and its end
-pub digits-turn : (ds : List ℕ) (i v : ℕ) → i < length ds → v ≡ valueOf (getD ds i 0) → v < 16 → allDigits (drop i ds) ≡ allDigits (drop (i + 1) ds)
+-- a turn of a loop that gathers the worst fault of a field's bytes, and its end
+pub digits-turn : (ds : List ℕ) (i worst f w : ℕ) → i < length ds → f ≡ faultOf (getD ds i 0) → w ≡ cond (ltb worst f) f worst → (eqb worst 0 && allDigits (drop i ds)) ≡ (eqb w 0 && allDigits (drop (i + 1) ds))
 unfolding allDigits
-digits-turn ds i v h e k = rw (drop-cons ds i 0 h, ← e, lt-ltb v 16 k, add-one i)
+digits-turn ds i worst f w h e g =
+    let d = getD ds i 0 in
+    by-lt (valueOf d) 16
+    (λ k.
+    let z : f ≡ 0 = e ∙ fault-none d k in
+    let n : f ≤ worst = omega arith in
+    rw (g, le-ltb worst f n, drop-cons ds i 0 h, lt-ltb (valueOf d) 16 k, add-one i))
+    (λ k.
+    let z : f ≡ 1 = e ∙ fault-one d k in
+    let s : w ≡ 0 → ⊥ = λ x. by-lt worst f (λ n. let q : w ≡ f = rw (g, lt-ltb worst f n) in omega arith) (λ n. let q : w ≡ worst = rw (g, le-ltb worst f n) in omega arith) in
+    rw (drop-cons ds i 0 h, le-ltb (valueOf d) 16 k, and-right-false (eqb worst 0), ne-eqb w 0 s))
 
-pub digits-stop : (ds : List ℕ) (i v : ℕ) → i < length ds → v ≡ valueOf (getD ds i 0) → 16 ≤ v → allDigits (drop i ds) ≡ false
+pub digits-end : (ds : List ℕ) (i worst : ℕ) → length ds ≤ i → (eqb worst 0 && allDigits (drop i ds)) ≡ eqb worst 0
 unfolding allDigits
-digits-stop ds i v h e k = rw (drop-cons ds i 0 h, ← e, le-ltb v 16 k)
-
-pub digits-end : (ds : List ℕ) (i : ℕ) → length ds ≤ i → allDigits (drop i ds) ≡ true
-unfolding allDigits
-digits-end ds i h = rw (drop-of-length-le ds h)
+digits-end ds i worst h = rw (drop-of-length-le ds h, and-right-true (eqb worst 0))
 
 -- a turn of a loop that reads a field into m
 pub read-turn : (m ds : List ℕ) (at i v : ℕ) → i < length ds / 2 → v ≡ byteOf (getD ds (i * 2) 0) (getD ds (i * 2 + 1) 0) → sets m (at + i) (drop i (bytesOf ds)) ≡ sets (set m (at + i) v) (at + (i + 1)) (drop (i + 1) (bytesOf ds))

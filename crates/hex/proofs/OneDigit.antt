@@ -5,7 +5,7 @@ use native.Mathlib.Omega.{arith}
 use lib.Dec.{leb}
 use borrow.Author.Tests.{le-leb, lt-leb, lt-ltb, le-ltb}
 use Rattle.laws.proofs.Split.{by-lt, and-right-false}
-use Rattle.hex.specs.Hex.{valueOf, digitOf, byteOf}
+use Rattle.hex.specs.Hex.{valueOf, digitOf, nibbleOf, byteOf, faultOf}
 
 pub value-low : (d : ℕ) → 48 ≤ d → d < 58 → valueOf d ≡ d - 48
 unfolding valueOf
@@ -96,24 +96,99 @@ digit-mod x =
     let e : x % 16 % 16 ≡ x % 16 = omega arith in
     rw e
 
+-- the bytes that are digits, and those that are none
+pub fault-none : (d : ℕ) → valueOf d < 16 → faultOf d ≡ 0
+unfolding faultOf
+fault-none d h = rw (lt-ltb (valueOf d) 16 h)
+
+pub fault-one : (d : ℕ) → 16 ≤ valueOf d → faultOf d ≡ 1
+unfolding faultOf
+fault-one d h = rw (le-ltb (valueOf d) 16 h)
+
+pub fault-low : (d : ℕ) → 48 ≤ d → d < 58 → faultOf d ≡ 0
+fault-low d h k =
+    let e : valueOf d ≡ d - 48 = value-low d h k in
+    let v : valueOf d < 16 = omega arith in
+    fault-none d v
+
+pub fault-high : (d : ℕ) → 65 ≤ d → d < 71 → faultOf d ≡ 0
+fault-high d h k =
+    let e : valueOf d ≡ d - 55 = value-high d h k in
+    let v : valueOf d < 16 = omega arith in
+    fault-none d v
+
+pub fault-below : (d : ℕ) → d < 48 → faultOf d ≡ 1
+unfolding faultOf
+fault-below d h = rw (value-below d h)
+
+pub fault-between : (d : ℕ) → 58 ≤ d → d < 65 → faultOf d ≡ 1
+unfolding faultOf
+fault-between d h k = rw (value-between d h k)
+
+pub fault-above : (d : ℕ) → 71 ≤ d → faultOf d ≡ 1
+unfolding faultOf
+fault-above d h = rw (value-above d h)
+
+-- the half byte of a digit is its value
+pub nibble-value : (d : ℕ) → valueOf d < 16 → nibbleOf d ≡ valueOf d
+unfolding nibbleOf
+nibble-value d v =
+    by-lt d 65
+    (λ h.
+    by-lt d 48
+    (λ l. let e : valueOf d ≡ 16 = value-below d l in absurd (omega arith))
+    (λ l.
+    by-lt d 58
+    (λ m.
+    let e : valueOf d ≡ d - 48 = value-low d l m in
+    let t : d % 16 ≡ valueOf d = omega arith in
+    rw (lt-ltb d 65 h) t)
+    (λ m. let e : valueOf d ≡ 16 = value-between d m h in absurd (omega arith))))
+    (λ h.
+    by-lt d 71
+    (λ m.
+    let e : valueOf d ≡ d - 55 = value-high d h m in
+    let t : (d % 16 + 9) % 16 ≡ valueOf d = omega arith in
+    rw (le-ltb d 65 h) t)
+    (λ m. let e : valueOf d ≡ 16 = value-above d m in absurd (omega arith)))
+
+pub nibble-small : (d : ℕ) → nibbleOf d < 16
+unfolding nibbleOf
+nibble-small d =
+    by-lt d 65
+    (λ h. let t : d % 16 < 16 = omega arith in rw (lt-ltb d 65 h) t)
+    (λ h. let t : (d % 16 + 9) % 16 < 16 = omega arith in rw (le-ltb d 65 h) t)
+
+pub nibble-digit : (x : ℕ) → nibbleOf (digitOf x) ≡ x % 16
+nibble-digit x =
+    let e : valueOf (digitOf x) ≡ x % 16 = value-digit x in
+    let h : valueOf (digitOf x) < 16 = omega arith in
+    nibble-value (digitOf x) h ∙ e
+
 pub byte-digits : (x : ℕ) → x < 256 → byteOf (digitOf (x / 16)) (digitOf x) ≡ x
 unfolding byteOf
 byte-digits x h =
-    let e : x / 16 % 16 % 16 * 16 + x % 16 % 16 ≡ x = omega arith in
-    rw (value-digit (x / 16), value-digit x) e
+    let e : x / 16 % 16 * 16 + x % 16 ≡ x = omega arith in
+    rw (nibble-digit (x / 16), nibble-digit x) e
 
 pub byte-high : (d e : ℕ) → valueOf d < 16 → valueOf e < 16 → digitOf (byteOf d e / 16) ≡ d
 unfolding byteOf
 byte-high d e h k =
-    let q : (valueOf d % 16 * 16 + valueOf e % 16) / 16 ≡ valueOf d = omega arith in
+    let a : nibbleOf d ≡ valueOf d = nibble-value d h in
+    let b : nibbleOf e ≡ valueOf e = nibble-value e k in
+    let q : (nibbleOf d * 16 + nibbleOf e) / 16 ≡ valueOf d = omega arith in
     ap digitOf q ∙ digit-value d h
 
 pub byte-low : (d e : ℕ) → valueOf d < 16 → valueOf e < 16 → digitOf (byteOf d e) ≡ e
 unfolding byteOf
 byte-low d e h k =
-    let q : (valueOf d % 16 * 16 + valueOf e % 16) % 16 ≡ valueOf e = omega arith in
-    sym (digit-mod (valueOf d % 16 * 16 + valueOf e % 16)) ∙ ap digitOf q ∙ digit-value e k
+    let b : nibbleOf e ≡ valueOf e = nibble-value e k in
+    let q : (nibbleOf d * 16 + nibbleOf e) % 16 ≡ valueOf e = omega arith in
+    sym (digit-mod (nibbleOf d * 16 + nibbleOf e)) ∙ ap digitOf q ∙ digit-value e k
 
 pub byte-small : (d e : ℕ) → byteOf d e < 256
 unfolding byteOf
-byte-small d e = omega arith
+byte-small d e =
+    let a : nibbleOf d < 16 = nibble-small d in
+    let b : nibbleOf e < 16 = nibble-small e in
+    omega arith

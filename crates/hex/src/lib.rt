@@ -1,25 +1,11 @@
 // Hexadecimal: a digit, and a field of digits, both ways.
 ghost use mathlib.Core.Path.{_≡_};
+ghost use mathlib.Core.Bool.{cond};
 ghost use Prim.Native.Nat.{_+_, _*_, _/_, _≤_, _<_};
+ghost use lib.Dec.{ltb};
 ghost use lib.ListN.{length};
 ghost use Rattle.laws.specs.Bytes.{put};
-ghost use Rattle.hex.specs.Hex.{valueOf, digitOf, byteOf, allDigits, bytesOf, hexOf};
-
-// The value of a digit, or 16 for a byte that is none.
-pub fn value(digit: u8) -> u8
-    ensures { λ r. ⌜ (r ≡ valueOf digit) × (r ≤ 16) ⌝ }
-{
-    if digit < 58 {
-        if digit < 48 {
-            return 16;
-        }
-        return digit - 48;
-    }
-    if 64 < digit && digit < 71 {
-        return digit - 55;
-    }
-    16
-}
+ghost use Rattle.hex.specs.Hex.{digitOf, nibbleOf, byteOf, faultOf, allDigits, bytesOf, hexOf};
 
 // The digit of the low half of a byte.
 pub fn digit(byte: u8) -> u8
@@ -29,25 +15,56 @@ pub fn digit(byte: u8) -> u8
     if n < 10 { n + 48 } else { n + 55 }
 }
 
-// The byte that two digits spell. A byte that is no digit counts as 0.
+// The half byte that a digit spells; for what is no digit, some half byte, so that it needs one test where to know a digit takes four.
+fn nibble(digit: u8) -> u8
+    ensures { λ r. ⌜ (r ≡ nibbleOf digit) × (r < 16) ⌝ }
+{
+    if digit < 65 {
+        digit % 16
+    } else {
+        (digit % 16 + 9) % 16
+    }
+}
+
+// The byte that two digits spell; for what are no digits, some byte.
 pub fn byte(high: u8, low: u8) -> u8
     ensures { λ r. ⌜ r ≡ byteOf high low ⌝ }
 {
-    value(high) % 16 * 16 + value(low) % 16
+    nibble(high) * 16 + nibble(low)
 }
 
-// Are all bytes of the field digits?
+// 0 for a digit, 1 for any other byte: a number, so that a loop can gather it without a branch.
+fn fault(byte: u8) -> u8
+    ensures { λ r. ⌜ r ≡ faultOf byte ⌝ }
+{
+    if 47 < byte && byte < 58 {
+        return 0;
+    }
+    if 64 < byte && byte < 71 {
+        return 0;
+    }
+    1
+}
+
+// The larger of two.
+fn more(a: u8, b: u8) -> u8
+    ensures { λ r. ⌜ r ≡ cond (ltb a b) b a ⌝ }
+{
+    if a < b { b } else { a }
+}
+
+// Are all bytes of the field digits? The loop goes to the field's end whatever it meets: without a branch that leaves it, the compiler takes many bytes
+// at a time.
 pub fn digits(field: &[u8]) -> bool
     ensures { λ r. ⌜ r ≡ allDigits (now (field .entry)) ⌝ }
 {
+    let mut worst = 0;
     let mut i = 0;
     while i < field.len() {
-        if 16 <= value(field[i]) {
-            return false;
-        }
+        worst = more(worst, fault(field[i]));
         i += 1;
     }
-    true
+    worst == 0
 }
 
 // The bytes that the field spells go over those of `out` from place `at` on; a last digit without its second is left out.

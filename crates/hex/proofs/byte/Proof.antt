@@ -4,21 +4,21 @@ use borrow.Author.Needs.{needs}
 use Rattle.hex.proofs.byte.Statement.{statement}
 use Rattle.hex.proofs.byte.Tie as tie
 
-value-requires : tie.Need-value-requires
-value-requires c κs = search needs
+nibble-requires : tie.Need-nibble-requires
+nibble-requires c κs = search needs
 
 mul-result : tie.Need-mul-result
 mul-result c = search needs
 
-value-requires-2 : tie.Need-value-requires-2
-value-requires-2 c κs = search needs
+nibble-requires-2 : tie.Need-nibble-requires-2
+nibble-requires-2 c κs = search needs
 
 add-result : tie.Need-add-result
 add-result c = search needs
 
 returns : tie.Need-returns
 unfolding byteOf
-returns c = simp (c .value2 .ensures .0, c .before .value .ensures .0)
+returns c = simp (c .nibble2 .ensures .0, c .before .nibble .ensures .0)
 
 pub byte-spec : {M : Type 1} → statement M
-byte-spec = tie.close (tie.spec value-requires mul-result value-requires-2 add-result returns)
+byte-spec = tie.close (tie.spec nibble-requires mul-result nibble-requires-2 add-result returns)
