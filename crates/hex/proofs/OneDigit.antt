@@ -1,4 +1,4 @@
--- Laws of a digit: what `valueOf` is in each range, and that value and digit undo each other. Assumes nothing.
+-- Laws of a digit: what `valueOf` is in each range, that value and digit undo each other, and the fault and the half byte of a digit. Assumes nothing.
 use mathlib.Core.Path.{_≡_, ap, _∙_, sym}
 use Prim.Native.Nat.{ℕ, _+_, _-_, _*_, _/_, _%_, _≤_, _<_}
 use native.Mathlib.Omega.{arith}
@@ -20,6 +20,12 @@ value-high d h k =
     let m : d ≤ 70 = omega arith in
     rw (lt-leb d 57 n, and-right-false (leb 48 d), le-leb 65 d h, le-leb d 70 m)
 
+pub value-above : (d : ℕ) → 71 ≤ d → valueOf d ≡ 16
+unfolding valueOf
+value-above d h =
+    let n : 57 < d = omega arith in
+    rw (lt-leb d 57 n, and-right-false (leb 48 d), lt-leb d 70 h, and-right-false (leb 65 d))
+
 pub value-below : (d : ℕ) → d < 48 → valueOf d ≡ 16
 unfolding valueOf
 value-below d h =
@@ -29,12 +35,6 @@ value-below d h =
 pub value-between : (d : ℕ) → 58 ≤ d → d < 65 → valueOf d ≡ 16
 unfolding valueOf
 value-between d h k = rw (lt-leb d 57 h, and-right-false (leb 48 d), lt-leb 65 d k)
-
-pub value-above : (d : ℕ) → 71 ≤ d → valueOf d ≡ 16
-unfolding valueOf
-value-above d h =
-    let n : 57 < d = omega arith in
-    rw (lt-leb d 57 n, and-right-false (leb 48 d), lt-leb d 70 h, and-right-false (leb 65 d))
 
 pub digit-low : (x : ℕ) → x % 16 < 10 → digitOf x ≡ x % 16 + 48
 unfolding digitOf

@@ -15,7 +15,7 @@ pub fn digit(byte: u8) -> u8
     if n < 10 { n + 48 } else { n + 55 }
 }
 
-// The half byte that a digit spells; for what is no digit, some half byte, so that it needs one test where to know a digit takes four.
+// The half byte that a digit spells. For what is no digit it is some half byte: to know digits from other bytes would take three tests more.
 fn nibble(digit: u8) -> u8
     ensures { λ r. ⌜ (r ≡ nibbleOf digit) × (r < 16) ⌝ }
 {
@@ -53,8 +53,8 @@ fn more(a: u8, b: u8) -> u8
     if a < b { b } else { a }
 }
 
-// Are all bytes of the field digits? The loop goes to the field's end whatever it meets: without a branch that leaves it, the compiler takes many bytes
-// at a time.
+// Are all bytes of the field digits? The loop goes to the end of the field whatever it meets: where no branch leaves a loop, the compiler can take
+// many bytes at a time.
 pub fn digits(field: &[u8]) -> bool
     ensures { λ r. ⌜ r ≡ allDigits (now (field .entry)) ⌝ }
 {
