@@ -1,3 +1,4 @@
+pub mod Fields
 pub mod Spelling
 pub mod FirstLine
 pub mod Formed

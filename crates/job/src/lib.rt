@@ -6,8 +6,8 @@ ghost use mathlib.Core.Bool.{true};
 ghost use Prim.Native.Nat.{_+_, _*_, _≤_, _<_};
 ghost use lib.ListN.{length, take, drop, getD};
 ghost use Rattle.laws.specs.Bytes.{put};
-ghost use Rattle.request.specs.Setup.{setupOf};
-ghost use Rattle.hex.specs.Hex.{bytesOf};
+ghost use Rattle.request.specs.Setup.{setupOf, dataLength};
+ghost use Rattle.hex.specs.Hex.{byteOf, bytesOf};
 ghost use Rattle.job.specs.Event.{request, lineOf, textOf, packOf, packedOf};
 ghost use Rattle.job.specs.Text.{limit, firstLine, eventOf, wellFormed, lineLength, packedSize, firstBad, eventsOf};
 ghost use Rattle.job.specs.Packed.{pieceLength, lineSize, capped, eventIn, wellPacked, packs, unpacked};
@@ -50,14 +50,40 @@ const SETUP_BYTES: usize = 8;
 
 const HEAD: usize = 9;
 
-// The setup that 16 digits spell.
+// The two bytes that four digits spell, low byte first.
+fn word(a: u8, b: u8, c: u8, d: u8) -> u16
+    ensures { λ r. ⌜ r ≡ byteOf a b + byteOf c d * 256 ⌝ }
+{
+    hex::byte(a, b) as u16 + hex::byte(c, d) as u16 * 256
+}
+
+// The setup that 16 digits spell, each field from its own digits: a caller that uses some of them pays for those.
 fn setup(field: &[u8]) -> Setup
     requires { ⌜ length (now field) ≡ 16 ⌝ }
     ensures { λ r. ⌜ r ≡ setupOf (bytesOf (now (field .entry))) ⌝ }
 {
-    let mut bytes = [0u8; SETUP_BYTES];
-    hex::decode(field, &mut bytes, 0);
-    Setup::of(&bytes)
+    Setup {
+        kind: hex::byte(field[0], field[1]),
+        code: hex::byte(field[2], field[3]),
+        value: word(field[4], field[5], field[6], field[7]),
+        index: word(field[8], field[9], field[10], field[11]),
+        length: word(field[12], field[13], field[14], field[15]),
+    }
+}
+
+// How many bytes of data follow the setup that 16 digits spell. The rule asks for the kind and the length, so no other digit is read.
+fn data_length(field: &[u8]) -> usize
+    requires { ⌜ length (now field) ≡ 16 ⌝ }
+    ensures { λ r. ⌜ r ≡ dataLength (setupOf (bytesOf (now (field .entry)))) ⌝ }
+{
+    let asked = Setup {
+        kind: hex::byte(field[0], field[1]),
+        code: 0,
+        value: 0,
+        index: 0,
+        length: word(field[12], field[13], field[14], field[15]),
+    };
+    asked.data_length()
 }
 
 // How long the request's line at the front of `rest` is, or 0 where it is malformed.
@@ -77,7 +103,7 @@ fn request_length(rest: &[u8]) -> usize
     if !hex::digits(&rest[SETUP..TAB]) {
         return 0;
     }
-    let count = setup(&rest[SETUP..TAB]).data_length();
+    let count = data_length(&rest[SETUP..TAB]);
     if (rest.len() - SHORTEST) / 2 < count {
         return 0;
     }

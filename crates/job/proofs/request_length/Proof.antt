@@ -4,14 +4,14 @@ use Rattle.hex.specs.Hex.{bytesOf}
 use Rattle.request.specs.Setup.{setupOf, dataLength}
 use lib.ListN.{take, drop}
 use borrow.Author.Tests.{not-true, not-false}
-use mathlib.Core.Path.{_≡_, refl, sym, ap, _∙_}
+use mathlib.Core.Path.{_≡_, refl, sym, _∙_}
 use borrow.Author.Needs.{needs}
 use Rattle.job.proofs.request_length.Statement.{statement}
 use Rattle.job.proofs.request_length.Tie as tie
 
 -- how much data the setup asks for
-asked : (c : tie.After-data-length) → c .data-length .result ≡ dataLength (setupOf (bytesOf (take 16 (drop 2 (c .before .before .before .before .before .before .before .before .before .before .before .before .args .rest .now)))))
-asked c = c .data-length .ensures ∙ ap dataLength (c .before .setup .ensures)
+asked : (c : tie.After-data-length) → c .data-length .result ≡ dataLength (setupOf (bytesOf (take 16 (drop 2 (c .before .before .before .before .before .before .before .before .before .before .before .args .rest .now)))))
+asked c = c .data-length .ensures
 
 returns : tie.Need-returns
 returns c = too-short _ (c .before .before .pre) (c .if1 .taken)
@@ -43,17 +43,14 @@ digits-requires c κs = search needs
 returns-4 : tie.Need-returns-4
 returns-4 c = no-setup _ (c .before .before .before .before .before .before .before .before .before .pre) (sym (c .before .digits .ensures) ∙ not-true _ (c .if4 .taken))
 
-sub-setup : tie.Need-sub-setup
-sub-setup c = search needs
+sub-data-length : tie.Need-sub-data-length
+sub-data-length c = search needs
 
-part-setup-start : tie.Need-part-setup-start
-part-setup-start c = search needs
+part-data-length-start : tie.Need-part-data-length-start
+part-data-length-start c = search needs
 
-part-setup-end : tie.Need-part-setup-end
-part-setup-end c = search needs
-
-setup-requires : tie.Need-setup-requires
-setup-requires c κs = search needs
+part-data-length-end : tie.Need-part-data-length-end
+part-data-length-end c = search needs
 
 data-length-requires : tie.Need-data-length-requires
 data-length-requires c κs = search needs
@@ -64,7 +61,7 @@ sub-if5 c = search needs
 returns-5 : tie.Need-returns-5
 returns-5 c =
     let d = c .before in
-    let s = d .before .before .before .before .before .before .before .before .before .before .before .before in
+    let s = d .before .before .before .before .before .before .before .before .before .before .before in
     data-short _ (s .pre) _ _ (asked d) refl (c .if5 .taken)
 
 mul-end : tie.Need-mul-end
@@ -79,7 +76,7 @@ shared-slice-read-if6 c = search needs
 returns-6 : tie.Need-returns-6
 returns-6 c =
     let d = c .before .before .before in
-    let s = d .before .before .before .before .before .before .before .before .before .before .before .before in
+    let s = d .before .before .before .before .before .before .before .before .before .before .before in
     no-end _ (s .pre) _ _ (asked d) refl (c .if6 .taken)
 
 sub-digits-2 : tie.Need-sub-digits-2
@@ -100,16 +97,16 @@ add-result c = search needs
 returns-7 : tie.Need-returns-7
 returns-7 c =
     let d = c .before .before .before .before .before .before in
-    let f = d .before .before .before in
+    let f = d .before .before in
     let g = f .before .before .before in
     let h = g .before .before .before .before in
-    let s = d .before .before .before .before .before .before .before .before .before .before .before .before in
+    let s = d .before .before .before .before .before .before .before .before .before .before .before in
     request-line _ (s .pre) _ _ (asked d) refl (h .if1 .left) (g .before .before .if2 .left) (g .if3 .left) (sym (f .before .digits .ensures) ∙ not-false _ (f .if4 .left)) (c .before .before .before .before .before .if5 .left) (c .before .before .before .if6 .left) (sym (c .before .digits2 .ensures) ∙ c .if7 .taken)
 
 returns-8 : tie.Need-returns-8
 returns-8 c =
     let d = c .before .before .before .before .before .before in
-    let s = d .before .before .before .before .before .before .before .before .before .before .before .before in
+    let s = d .before .before .before .before .before .before .before .before .before .before .before in
     no-data _ (s .pre) _ _ (asked d) refl (sym (c .before .digits2 .ensures) ∙ c .if7 .left)
 
 pub request-length-spec : {M : Type 1} → statement M
@@ -126,10 +123,9 @@ request-length-spec =
     part-digits-end
     digits-requires
     returns-4
-    sub-setup
-    part-setup-start
-    part-setup-end
-    setup-requires
+    sub-data-length
+    part-data-length-start
+    part-data-length-end
     data-length-requires
     sub-if5
     returns-5

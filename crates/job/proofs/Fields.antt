@@ -1,0 +1,32 @@
+-- The fields of a setup, each from its own digits. Assumes nothing.
+use mathlib.Core.Path.{_≡_}
+use mathlib.Core.List.{List}
+use Prim.Native.Nat.{ℕ, _+_, _*_, _/_, _<_}
+use native.Mathlib.Omega.{arith}
+use lib.ListN.{length, getD}
+use Rattle.request.specs.Setup.{setupOf, dataLength}
+use Rattle.request.specs.declared.Setup.{Setup}
+use Rattle.hex.specs.Hex.{byteOf, bytesOf}
+use Rattle.hex.proofs.Fields.{byte-of}
+
+-- the byte and the word that the digits from place i on spell
+abbrev pub byteAt : List ℕ → ℕ → ℕ
+byteAt ds i = byteOf (getD ds i 0) (getD ds (i + 1) 0)
+
+abbrev pub wordAt : List ℕ → ℕ → ℕ
+wordAt ds i = byteOf (getD ds i 0) (getD ds (i + 1) 0) + byteOf (getD ds (i + 2) 0) (getD ds (i + 3) 0) * 256
+
+module _ (ds : List ℕ) (whole : length ds ≡ 16) where
+  spells : (i : ℕ) → i < 8 → byteOf (getD ds (i * 2) 0) (getD ds (i * 2 + 1) 0) ≡ getD (bytesOf ds) i 0
+  spells i h = byte-of ds i (let k : i < length ds / 2 = omega arith in k)
+
+  pub setup-fields : (kind code value index size : ℕ) → kind ≡ byteAt ds 0 → code ≡ byteAt ds 2 → value ≡ wordAt ds 4 → index ≡ wordAt ds 8 → size ≡ wordAt ds 12 → _≡_ {A = Setup} (record { kind = kind; code = code; value = value; index = index; length = size }) (setupOf (bytesOf ds))
+  unfolding setupOf
+  setup-fields kind code value index size k c v x l =
+      rw (k, c, v, x, l, spells 0 (omega arith), spells 1 (omega arith), spells 2 (omega arith), spells 3 (omega arith), spells 4 (omega arith), spells 5 (omega arith), spells 6 (omega arith), spells 7 (omega arith))
+
+  -- how much data follow is told by the kind and the length
+  pub length-fields : (s : Setup) → s .kind ≡ byteAt ds 0 → s .length ≡ wordAt ds 12 → dataLength s ≡ dataLength (setupOf (bytesOf ds))
+  unfolding dataLength setupOf
+  length-fields s k l =
+      rw (k, l, spells 0 (omega arith), spells 6 (omega arith), spells 7 (omega arith))
