@@ -15,10 +15,11 @@ use Rattle.device.proofs.Form.{Form, form-of, well-formed}
 use Rattle.hex.specs.Hex.{bytesOf}
 use Rattle.job.specs.declared.Item.the-variants as item
 use Rattle.job.specs.Event.{Event, attach, request, proper, textOf}
-use Rattle.job.specs.Text.{linesOf, eventsIn, eventsOf}
+use Rattle.job.specs.Text.{firstLine, linesOf, eventsIn, eventsOf}
+use Rattle.job.specs.Text as text
 use Rattle.job.specs.Calls.{itemOf}
 use Rattle.job.proofs.EventText.{text-events}
-use Rattle.job.proofs.WalkEvents.{Beyond, Attached, Requested, end-tells, bad-never, attach-tells, request-tells}
+use Rattle.job.proofs.WalkEvents.{Beyond, Attached, Requested, formed-here, end-tells, bad-never, attach-tells, request-tells}
 use Rattle.cells.specs.Cells.{Over, fell, ended, falls, goes, requestMoves, moves, overOf}
 use Rattle.cells.proofs.InForm.{moves-form}
 use Rattle.checker.specs.declared.Step.{Step}
@@ -29,6 +30,10 @@ use Rattle.checker.specs.Walk.{movedAs, Ahead, Further, Advanced}
 
 -- what stands at a place from which on the text is that of its events
 module _ (t : List ℕ) (at : ℕ) (a : Ahead t at) where
+  -- a well-formed line, while there is text
+  pub ahead-formed : at < length t → text.wellFormed (firstLine (drop at t)) ≡ true
+  ahead-formed h = formed-here t at (eventsOf (drop at t)) (a .text) (a .right) h
+
   -- not its end, while there is text
   pub not-at-end : at < length t → itemOf t at ≡ item.End → ⊥
   unfolding textOf

@@ -439,7 +439,7 @@ fn advance(board: Board, device: Device, job: &[u8], at: usize, work: &mut [u8])
     requires { ⌜ (length (now work) ≡ workBytes (board .pages)) × (1 ≤ board .pages) × (wellFormed (board .pages) device ≡ true) × Ahead (now job) at × (at < length (now job)) ⌝ }
     ensures { λ r. ⌜ Advanced (board .pages) (now (job .entry)) at device (now (work .entry)) r (now (work .exit)) ⌝ }
 {
-    let item = job::item_at(job, at);
+    let item = job::event_at(job, at);
     match item {
         Item::End => Onward::Falls,
         Item::Bad => Onward::Falls,

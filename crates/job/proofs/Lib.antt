@@ -4,6 +4,7 @@ pub mod FirstLine
 pub mod Formed
 pub mod LineLength
 pub mod Walking
+pub mod Known
 pub mod Packing
 pub mod PieceLength
 pub mod EventText

@@ -1,4 +1,4 @@
--- The walk and the events of a text: what `item_at` gives at a place from which on the text is that of some events. Assumes nothing.
+-- The walk and the events of a text: what `item_at` and `event_at` give at a place from which on the text is that of some events. Assumes nothing.
 use mathlib.Core.Path.{_≡_, refl, ap, ap₂, _∙_, sym}
 use mathlib.Core.Bool.{true}
 use mathlib.Core.List.{List, [], _∷_, _++_, append-assoc}
@@ -13,7 +13,7 @@ use Rattle.hex.specs.Hex.{bytesOf}
 use Rattle.hex.proofs.Fields.{bytes-hex}
 use Rattle.job.specs.declared.Item.the-variants as item
 use Rattle.job.specs.Event.{Event, attach, request, fits, inBytes, proper, lineOf, textOf}
-use Rattle.job.specs.Text.{firstLine, firstBad, eventsOf}
+use Rattle.job.specs.Text.{firstLine, wellFormed, firstBad, eventsOf}
 use Rattle.job.specs.Calls.{itemFor, itemOf}
 use Rattle.job.proofs.Spelling.{spelled, spelled-facts}
 use Rattle.job.proofs.Formed.{fits-long, fits-data, bytes-drop}
@@ -86,6 +86,15 @@ item-last t at is =
     let l : length (drop at t) ≡ 0 = ap length is in
     let d : length (drop at t) ≡ length t - at = length-drop at t in
     rw (le-leb (length t) at (let h : length t ≤ at = omega arith in h))
+
+-- while there is text, its first line is well formed
+pub formed-here : (t : List ℕ) (at : ℕ) (es : List Event) → drop at t ≡ textOf es → proper es ≡ true → at < length t → wellFormed (firstLine (drop at t)) ≡ true
+unfolding textOf
+formed-here t at [] is ok h =
+    let l : length (drop at t) ≡ 0 = ap length is in
+    let d : length (drop at t) ≡ length t - at = length-drop at t in
+    absurd (omega arith)
+formed-here t at (e ∷ es) is ok h = let p = proper-parts e es ok in ap wellFormed (first t at e es is ok) ∙ line-formed e (p .0) (p .1)
 
 -- a walk over a text without a malformed line begins with all of its events
 pub walk-start : (t : List ℕ) → firstBad t ≡ 0 → drop 0 t ≡ textOf (eventsOf t)

@@ -169,6 +169,24 @@ pub fn item_at(text: &[u8], at: usize) -> Item
     }
 }
 
+// The event at a place where the text is known to be well formed. A text that was measured before needs no second look at each digit.
+pub fn event_at(text: &[u8], at: usize) -> Item
+    requires { ⌜ (at < length (now text)) × (wellFormed (firstLine (drop at (now text))) ≡ true) ⌝ }
+    ensures { λ r. ⌜ r ≡ itemOf (now (text .entry)) at ⌝ }
+{
+    if text[at] == b'A' {
+        return Item::Attach { next: at + 2 };
+    }
+    let asked = setup(&text[at + SETUP..at + TAB]);
+    let data = at + DATA;
+    let end = data + asked.data_length() * 2;
+    Item::Request {
+        setup: asked,
+        data,
+        next: end + 1,
+    }
+}
+
 // The first malformed line, or how many bytes the text's events take when packed: one pass, a line a turn.
 fn scan(text: &[u8]) -> Done
     requires { ⌜ length (now text) ≤ limit ⌝ }

@@ -3,13 +3,13 @@ use mathlib.Core.Path.{ap, _∙_, sym}
 use Prim.Native.Nat.{ℕ, _+_, _*_}
 use native.Mathlib.Omega.{arith}
 use Rattle.request.proofs.Lengths.{data-at-most}
-use Rattle.checker.proofs.Advancing.{not-at-end, never-bad, attach-further, data-within, request-falls, request-further}
+use Rattle.checker.proofs.Advancing.{ahead-formed, not-at-end, never-bad, attach-further, data-within, request-falls, request-further}
 use borrow.Author.Needs.{needs}
 use Rattle.checker.proofs.advance.Statement.{statement}
 use Rattle.checker.proofs.advance.Tie as tie
 
-item-at-requires : tie.Need-item-at-requires
-item-at-requires c κs = search needs
+event-at-requires : tie.Need-event-at-requires
+event-at-requires c κs = let p = c .before .before .pre in (p .4, ahead-formed _ _ (p .3) (p .4))
 
 enum-told : tie.Need-enum-told
 enum-told c = search needs
@@ -37,7 +37,7 @@ add-end c =
     let t = c .before .before in
     let i = t .before .before in
     let p = i .before .before .before .pre in
-    let h = data-within _ _ (p .3) _ _ _ _ (sym (i .item-at .ensures) ∙ t .item2 .given .1) (ap (λ (x : ℕ). t .item2 .given .0 .1 .0 + x * 2) (c .data-length .ensures)) in
+    let h = data-within _ _ (p .3) _ _ _ _ (sym (i .event-at .ensures) ∙ t .item2 .given .1) (ap (λ (x : ℕ). t .item2 .given .0 .1 .0 + x * 2) (c .data-length .ensures)) in
     omega (arith, h)
 
 sub-request : tie.Need-sub-request
@@ -51,7 +51,7 @@ part-request-end c =
     let t = c .before .before in
     let i = t .before .before in
     let p = i .before .before .before .pre in
-    let h = data-within _ _ (p .3) _ _ _ _ (sym (i .item-at .ensures) ∙ t .item2 .given .1) (ap (λ (x : ℕ). t .item2 .given .0 .1 .0 + x * 2) (c .data-length .ensures)) in
+    let h = data-within _ _ (p .3) _ _ _ _ (sym (i .event-at .ensures) ∙ t .item2 .given .1) (ap (λ (x : ℕ). t .item2 .given .0 .1 .0 + x * 2) (c .data-length .ensures)) in
     h
 
 request-requires : tie.Need-request-requires
@@ -67,20 +67,20 @@ returns : tie.Need-returns
 returns c =
     let i = c .before .before in
     let p = i .before .before .before .pre in
-    absurd (not-at-end _ _ (p .3) (p .4) (sym (i .item-at .ensures) ∙ c .enum-told .given .1))
+    absurd (not-at-end _ _ (p .3) (p .4) (sym (i .event-at .ensures) ∙ c .enum-told .given .1))
 
 returns-2 : tie.Need-returns-2
 returns-2 c =
     let i = c .before .before in
     let p = i .before .before .before .pre in
-    absurd (never-bad _ _ (p .3) (sym (i .item-at .ensures) ∙ c .enum-told2 .given .1))
+    absurd (never-bad _ _ (p .3) (sym (i .event-at .ensures) ∙ c .enum-told2 .given .1))
 
 returns-3 : tie.Need-returns-3
 returns-3 c =
     let t = c .before .before in
     let i = t .before .before in
     let p = i .before .before .before .pre in
-    rw (c .attach .ensures) (attach-further _ _ _ _ _ (p .3) (p .1) (p .2) _ (sym (i .item-at .ensures) ∙ t .item .given .1))
+    rw (c .attach .ensures) (attach-further _ _ _ _ _ (p .3) (p .1) (p .2) _ (sym (i .event-at .ensures) ∙ t .item .given .1))
 
 same-length : tie.Need-same-length
 same-length c = search needs
@@ -93,7 +93,7 @@ returns-4 c =
     let i = t .before .before in
     let p = i .before .before .before .pre in
     let e = ap (λ (x : ℕ). t .item2 .given .0 .1 .0 + x * 2) (l .data-length .ensures) in
-    request-falls _ _ _ _ _ (p .3) _ _ _ _ (sym (i .item-at .ensures) ∙ t .item2 .given .1) e _ _ (r .request .ensures) (c .enum-told3 .given .1)
+    request-falls _ _ _ _ _ (p .3) _ _ _ _ (sym (i .event-at .ensures) ∙ t .item2 .given .1) e _ _ (r .request .ensures) (c .enum-told3 .given .1)
 
 same-length-2 : tie.Need-same-length-2
 same-length-2 c = search needs
@@ -106,13 +106,13 @@ returns-5 c =
     let i = t .before .before in
     let p = i .before .before .before .pre in
     let e = ap (λ (x : ℕ). t .item2 .given .0 .1 .0 + x * 2) (l .data-length .ensures) in
-    request-further _ _ _ _ _ (p .3) _ _ _ _ (sym (i .item-at .ensures) ∙ t .item2 .given .1) e _ _ (r .request .ensures) (p .1) (p .2) _ (c .before .step .given .1)
+    request-further _ _ _ _ _ (p .3) _ _ _ _ (sym (i .event-at .ensures) ∙ t .item2 .given .1) e _ _ (r .request .ensures) (p .1) (p .2) _ (c .before .step .given .1)
 
 pub advance-spec : {M : Type 1} → statement M
 advance-spec =
     tie.close
     (tie.spec
-    item-at-requires
+    event-at-requires
     enum-told
     enum-told-2
     enum-known-item
