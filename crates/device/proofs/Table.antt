@@ -71,29 +71,6 @@ all-right : T (every rightRow 0 table)
 unfolding right rightRow requestAt modeAt allowedOf
 all-right = tt
 
--- r and c are the row and the column that the code looks up; d is what stands past the last row
-pub table-is : (request : Request) (mode : Mode) (r c : ℕ) (d : List ℕ) → r ≡ rowOf request → c ≡ columnOf mode → r < 6 → c < 9 → eqb (getD (getD table r d) c 0) 1 ≡ allowedOf request mode
-unfolding right rightRow
-table-is request mode r c d er ec hr hc =
-    let row = getD table r d in
-    let t : T (rightRow r row) = every-at rightRow d table all-right r hr in
-    let n : length row ≡ 9 = eqb→eq (length row) 9 (and-left (eqb (length row) 9) (every (right r) 0 row) t) in
-    let h : c < length row = omega arith in
-    let e = every-at (right r) 0 row (and-right (eqb (length row) 9) (every (right r) 0 row) t) c h in
-    same-eq (eqb (getD row c 0) 1) (allowedOf (requestAt r) (modeAt c)) e
-    ∙ ap₂ allowedOf (ap requestAt er ∙ request-row request) (ap modeAt ec ∙ mode-column mode)
-
--- what has no row is Unknown, and is taken nowhere
-pub no-row : (request : Request) (mode : Mode) → 6 ≤ rowOf request → allowedOf request mode ≡ false
-unfolding allowedOf
-no-row Download mode h = absurd (omega arith)
-no-row Upload mode h = absurd (omega arith)
-no-row GetStatus mode h = absurd (omega arith)
-no-row ClearStatus mode h = absurd (omega arith)
-no-row GetState mode h = absurd (omega arith)
-no-row Abort mode h = absurd (omega arith)
-no-row Unknown mode h = refl
-
 pub column-below : (mode : Mode) → columnOf mode < 9
 column-below Idle = omega arith
 column-below DownloadSync = omega arith
@@ -104,3 +81,20 @@ column-below UploadIdle = omega arith
 column-below Error = omega arith
 column-below Left = omega arith
 column-below Rebooting = omega arith
+
+-- r and c are the row that the code names and the column that it looks up
+pub row-is : (request : Request) (mode : Mode) (r c : ℕ) → r ≡ rowOf request → c ≡ columnOf mode → r < 6 → eqb (getD (getD table r []) c 0) 1 ≡ allowedOf request mode
+unfolding right rightRow
+row-is request mode r c er ec hr =
+    let row = getD table r [] in
+    let t : T (rightRow r row) = every-at rightRow [] table all-right r hr in
+    let n : length row ≡ 9 = eqb→eq (length row) 9 (and-left (eqb (length row) 9) (every (right r) 0 row) t) in
+    let h : c < length row = omega (arith, column-below mode) in
+    let e = every-at (right r) 0 row (and-right (eqb (length row) 9) (every (right r) 0 row) t) c h in
+    same-eq (eqb (getD row c 0) 1) (allowedOf (requestAt r) (modeAt c)) e
+    ∙ ap₂ allowedOf (ap requestAt er ∙ request-row request) (ap modeAt ec ∙ mode-column mode)
+
+-- Unknown has no row, and is taken nowhere
+pub no-row : (request : Request) (mode : Mode) → request ≡ Unknown → allowedOf request mode ≡ false
+unfolding allowedOf
+no-row request mode e = rw e

@@ -1,8 +1,11 @@
 // The device's state, by value: its modes, the table of the requests that each takes, and where the
 // events that need no memory take it.
 ghost use mathlib.Core.Path.{_≡_};
+ghost use Prim.Native.Nat.{_<_};
+ghost use lib.Dec.{eqb};
+ghost use lib.ListN.{getD};
 ghost use Rattle.device.specs.Wire.{wireOf};
-ghost use Rattle.device.specs.Table.{allowedOf, rowOf, columnOf};
+ghost use Rattle.device.specs.Table.{allowedOf, columnOf};
 ghost use Rattle.device.specs.State.{started, idled, failed, stalled, entered, finished, ranReport, reportOf, afterStatus};
 ghost use Rattle.device.specs.WellFormed.{wellFormed, inRegion, pendingFits, writeFits, statusFits};
 use board::Board;
@@ -88,21 +91,6 @@ impl Mode {
     }
 }
 
-// The row of the table of allowed requests; Unknown has none.
-fn row(request: Request) -> usize
-    ensures { λ r. ⌜ r ≡ rowOf request ⌝ }
-{
-    match request {
-        Request::Download => 0,
-        Request::Upload => 1,
-        Request::GetStatus => 2,
-        Request::ClearStatus => 3,
-        Request::GetState => 4,
-        Request::Abort => 5,
-        Request::Unknown => 6,
-    }
-}
-
 // Six requests by nine modes: 1 where the request is taken.
 const ALLOWED: [[u8; 9]; 6] = [
     [1, 0, 0, 1, 0, 0, 0, 0, 0],
@@ -113,16 +101,28 @@ const ALLOWED: [[u8; 9]; 6] = [
     [1, 1, 0, 1, 1, 1, 0, 0, 0],
 ];
 
-// Is the request taken in this mode?
+// Is the request taken in this mode? An arm names its row, so that one row is read and not the table; Unknown has none.
 pub fn allowed(request: Request, mode: Mode) -> bool
     ensures { λ r. ⌜ r ≡ allowedOf request mode ⌝ }
 {
-    let row = row(request);
-    if 6 <= row {
-        return false;
-    }
     let column = mode.column();
-    ALLOWED[row][column] == 1
+    match request {
+        Request::Download => marked(ALLOWED[0], column),
+        Request::Upload => marked(ALLOWED[1], column),
+        Request::GetStatus => marked(ALLOWED[2], column),
+        Request::ClearStatus => marked(ALLOWED[3], column),
+        Request::GetState => marked(ALLOWED[4], column),
+        Request::Abort => marked(ALLOWED[5], column),
+        Request::Unknown => false,
+    }
+}
+
+// Does the row have a 1 in this column?
+fn marked(row: [u8; 9], column: usize) -> bool
+    requires { ⌜ column < 9 ⌝ }
+    ensures { λ r. ⌜ r ≡ eqb (getD row column 0) 1 ⌝ }
+{
+    row[column] == 1
 }
 
 impl Device {
