@@ -133,31 +133,30 @@ fault-above d h = rw (value-above d h)
 pub nibble-value : (d : ℕ) → valueOf d < 16 → nibbleOf d ≡ valueOf d
 unfolding nibbleOf
 nibble-value d v =
-    by-lt d 65
+    by-lt d 58
     (λ h.
     by-lt d 48
     (λ l. let e : valueOf d ≡ 16 = value-below d l in absurd (omega arith))
     (λ l.
-    by-lt d 58
-    (λ m.
-    let e : valueOf d ≡ d - 48 = value-low d l m in
-    let t : d % 16 ≡ valueOf d = omega arith in
-    rw (lt-ltb d 65 h) t)
-    (λ m. let e : valueOf d ≡ 16 = value-between d m h in absurd (omega arith))))
+    let e : valueOf d ≡ d - 48 = value-low d l h in
+    let a : d / 64 ≡ 0 = omega arith in
+    let b : d % 16 ≡ d - 48 = omega arith in
+    rw (a, b, e) (let z : (d - 48 + 0 * 9) % 16 ≡ d - 48 = omega arith in z)))
     (λ h.
+    by-lt d 65
+    (λ l. let e : valueOf d ≡ 16 = value-between d h l in absurd (omega arith))
+    (λ l.
     by-lt d 71
     (λ m.
-    let e : valueOf d ≡ d - 55 = value-high d h m in
-    let t : (d % 16 + 9) % 16 ≡ valueOf d = omega arith in
-    rw (le-ltb d 65 h) t)
-    (λ m. let e : valueOf d ≡ 16 = value-above d m in absurd (omega arith)))
+    let e : valueOf d ≡ d - 55 = value-high d l m in
+    let a : d / 64 ≡ 1 = omega arith in
+    let b : d % 16 ≡ d - 64 = omega arith in
+    rw (a, b, e) (let z : (d - 64 + 1 * 9) % 16 ≡ d - 55 = omega arith in z))
+    (λ m. let e : valueOf d ≡ 16 = value-above d m in absurd (omega arith))))
 
 pub nibble-small : (d : ℕ) → nibbleOf d < 16
 unfolding nibbleOf
-nibble-small d =
-    by-lt d 65
-    (λ h. let t : d % 16 < 16 = omega arith in rw (lt-ltb d 65 h) t)
-    (λ h. let t : (d % 16 + 9) % 16 < 16 = omega arith in rw (le-ltb d 65 h) t)
+nibble-small d = omega arith
 
 pub nibble-digit : (x : ℕ) → nibbleOf (digitOf x) ≡ x % 16
 nibble-digit x =

@@ -14,7 +14,7 @@ digitOf x = cond (ltb (x % 16) 10) (x % 16 + 48) (x % 16 + 55)
 
 -- the half byte that a digit spells: 0 to 9 have it as their low half, A to F are 9 past theirs; for what is no digit, some half byte
 unfoldable pub nibbleOf : ℕ → ℕ
-nibbleOf d = cond (ltb d 65) (d % 16) ((d % 16 + 9) % 16)
+nibbleOf d = (d % 16 + d / 64 * 9) % 16
 
 -- the byte that two digits spell; for what are no digits, some byte
 unfoldable pub byteOf : ℕ → ℕ → ℕ

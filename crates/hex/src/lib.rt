@@ -15,15 +15,11 @@ pub fn digit(byte: u8) -> u8
     if n < 10 { n + 48 } else { n + 55 }
 }
 
-// The half byte that a digit spells. For what is no digit it is some half byte: to know digits from other bytes would take three tests more.
+// The half byte that a digit spells. For what is no digit it is some half byte: letters have bit 6 set and lie 9 past theirs, and no test is needed.
 fn nibble(digit: u8) -> u8
     ensures { λ r. ⌜ (r ≡ nibbleOf digit) × (r < 16) ⌝ }
 {
-    if digit < 65 {
-        digit % 16
-    } else {
-        (digit % 16 + 9) % 16
-    }
+    (digit % 16 + digit / 64 * 9) % 16
 }
 
 // The byte that two digits spell; for what are no digits, some byte.

@@ -1,9 +1,11 @@
 -- The fields of a setup, each from its own digits. Assumes nothing.
-use mathlib.Core.Path.{_≡_}
+use mathlib.Core.Path.{_≡_, _∙_}
 use mathlib.Core.List.{List}
 use Prim.Native.Nat.{ℕ, _+_, _*_, _/_, _<_}
 use native.Mathlib.Omega.{arith}
 use lib.ListN.{length, getD}
+use borrow.Author.Tests.{lt-ltb, le-ltb}
+use Rattle.laws.proofs.Split.{by-lt}
 use Rattle.request.specs.Setup.{setupOf, dataLength}
 use Rattle.request.specs.declared.Setup.{Setup}
 use Rattle.hex.specs.Hex.{byteOf, bytesOf}
@@ -30,3 +32,12 @@ module _ (ds : List ℕ) (whole : length ds ≡ 16) where
   unfolding dataLength setupOf
   length-fields s k l =
       rw (k, l, spells 0 (omega arith), spells 6 (omega arith), spells 7 (omega arith))
+
+  -- where one byte of data would not follow, none do
+  pub length-none : (s : Setup) → s .kind ≡ byteAt ds 0 → s .length ≡ 1 → dataLength s ≡ 0 → 0 ≡ dataLength (setupOf (bytesOf ds))
+  unfolding dataLength setupOf
+  length-none s k l e =
+      let a : s .kind ≡ getD (bytesOf ds) 0 0 = k ∙ spells 0 (omega arith) in
+      by-lt (s .kind) 128
+      (λ h. let z : 1 ≡ 0 = rw (lt-ltb (s .kind) 128 h, l) at e in absurd (omega arith))
+      (λ h. rw (← a, le-ltb (s .kind) 128 h))

@@ -71,19 +71,29 @@ fn setup(field: &[u8]) -> Setup
     }
 }
 
-// How many bytes of data follow the setup that 16 digits spell. The rule asks for the kind and the length, so no other digit is read.
+// How many bytes of data follow the setup that 16 digits spell. The digits of the length are read only where the kind takes data.
 fn data_length(field: &[u8]) -> usize
     requires { ⌜ length (now field) ≡ 16 ⌝ }
     ensures { λ r. ⌜ r ≡ dataLength (setupOf (bytesOf (now (field .entry)))) ⌝ }
 {
-    let asked = Setup {
-        kind: hex::byte(field[0], field[1]),
+    let kind = hex::byte(field[0], field[1]);
+    if asking(kind, 1).data_length() == 0 {
+        return 0;
+    }
+    asking(kind, word(field[12], field[13], field[14], field[15])).data_length()
+}
+
+// A setup of this kind and length: how many data follow depends on nothing else.
+fn asking(kind: u8, length: u16) -> Setup
+    ensures { λ r. ⌜ r ≡ record { kind = kind; code = 0; value = 0; index = 0; length = length } ⌝ }
+{
+    Setup {
+        kind,
         code: 0,
         value: 0,
         index: 0,
-        length: word(field[12], field[13], field[14], field[15]),
-    };
-    asked.data_length()
+        length,
+    }
 }
 
 // How long the request's line at the front of `rest` is, or 0 where it is malformed.

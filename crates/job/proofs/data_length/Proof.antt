@@ -1,6 +1,7 @@
 -- `job::data_length` meets its contract. Assumes nothing.
-use mathlib.Core.Path.{_∙_}
-use Rattle.job.proofs.Fields.{length-fields}
+use mathlib.Core.Path.{ap, _∙_, sym}
+use Rattle.request.specs.declared.Setup.{Setup}
+use Rattle.job.proofs.Fields.{length-fields, length-none}
 use borrow.Author.Needs.{needs}
 use Rattle.job.proofs.data_length.Statement.{statement}
 use Rattle.job.proofs.data_length.Tie as tie
@@ -13,6 +14,19 @@ shared-slice-read-byte-2 c = search needs
 
 byte-requires : tie.Need-byte-requires
 byte-requires c κs = search needs
+
+asking-requires : tie.Need-asking-requires
+asking-requires c κs = search needs
+
+data-length-requires : tie.Need-data-length-requires
+data-length-requires c κs = search needs
+
+returns : tie.Need-returns
+returns c =
+    let d = c .before in
+    let a = d .before in
+    let b = a .before in
+    length-none _ (b .before .before .before .before .pre) _ (ap (λ (x : Setup). x .kind) (a .asking .ensures) ∙ b .byte .ensures) (ap (λ (x : Setup). x .length) (a .asking .ensures)) (sym (d .data-length .ensures) ∙ c .if1 .taken)
 
 shared-slice-read-word : tie.Need-shared-slice-read-word
 shared-slice-read-word c = search needs
@@ -29,14 +43,18 @@ shared-slice-read-word-4 c = search needs
 word-requires : tie.Need-word-requires
 word-requires c κs = search needs
 
-data-length-requires : tie.Need-data-length-requires
-data-length-requires c κs = search needs
+asking-requires-2 : tie.Need-asking-requires-2
+asking-requires-2 c κs = search needs
 
-returns : tie.Need-returns
-returns c =
-    let w = c .before in
-    let k = w .before .before .before .before .before in
-    c .data-length .ensures ∙ length-fields _ (k .before .before .before .before .pre) _ (k .byte .ensures) (w .word .ensures)
+data-length-requires-2 : tie.Need-data-length-requires-2
+data-length-requires-2 c κs = search needs
+
+returns-2 : tie.Need-returns-2
+returns-2 c =
+    let a = c .before in
+    let w = a .before in
+    let b = w .before .before .before .before .before .before .before .before in
+    c .data-length2 .ensures ∙ length-fields _ (b .before .before .before .before .pre) _ (ap (λ (x : Setup). x .kind) (a .asking2 .ensures) ∙ b .byte .ensures) (ap (λ (x : Setup). x .length) (a .asking2 .ensures) ∙ w .word .ensures)
 
 pub data-length-spec : {M : Type 1} → statement M
 data-length-spec =
@@ -45,10 +63,14 @@ data-length-spec =
     shared-slice-read-byte
     shared-slice-read-byte-2
     byte-requires
+    asking-requires
+    data-length-requires
+    returns
     shared-slice-read-word
     shared-slice-read-word-2
     shared-slice-read-word-3
     shared-slice-read-word-4
     word-requires
-    data-length-requires
-    returns)
+    asking-requires-2
+    data-length-requires-2
+    returns-2)

@@ -1,0 +1,66 @@
+-- `check_job::trial::run` is safe and ends. Assumes nothing.
+use borrow.Author.Needs.{needs}
+use lib.ListN.{length}
+use Prim.Native.Nat.{_≤_}
+use mathlib.Core.Path.{_≡_}
+use Rattle.check_job.proofs.trial.run.Statement.{statement}
+use Rattle.check_job.proofs.trial.run.Tie as tie
+
+abbrev Inv-loop : tie.InvT-loop
+Inv-loop packed events card memory₀ block₀ reply₀ device₀ at₀ left₀ memory block reply device at left =
+    (left ≤ left₀) × (length memory ≡ length memory₀) × (length block ≡ length block₀) × (length reply ≡ length reply₀)
+
+abbrev μ-loop : tie.MeasureT-loop
+μ-loop packed events card memory₀ block₀ reply₀ device₀ at₀ left₀ memory block reply device at left =
+    left
+
+equip-requires : tie.Need-equip-requires Inv-loop μ-loop
+equip-requires c κs = search needs
+
+loop-holds : tie.Need-loop-holds Inv-loop μ-loop
+loop-holds c = search needs
+
+end-of-requires : tie.Need-end-of-requires Inv-loop μ-loop
+end-of-requires c κs = search needs
+
+slice-aggregate-play : tie.Need-slice-aggregate-play Inv-loop μ-loop
+slice-aggregate-play c = search needs
+
+slice-aggregate-play-2 : tie.Need-slice-aggregate-play-2 Inv-loop μ-loop
+slice-aggregate-play-2 c = search needs
+
+play-requires : tie.Need-play-requires Inv-loop μ-loop
+play-requires c κs = search needs
+
+sub-left : tie.Need-sub-left Inv-loop μ-loop
+sub-left c = search needs
+
+loop-less : tie.Need-loop-less Inv-loop μ-loop
+loop-less c = search needs
+
+loop-again : tie.Need-loop-again Inv-loop μ-loop
+loop-again c = search needs
+
+same-length : tie.Need-same-length Inv-loop μ-loop
+same-length c = search needs
+
+returns : tie.Need-returns Inv-loop μ-loop
+returns c = search needs
+
+pub run-spec : {M : Type 1} → statement M
+run-spec =
+    tie.close
+    (tie.spec
+    Inv-loop
+    μ-loop
+    equip-requires
+    loop-holds
+    end-of-requires
+    slice-aggregate-play
+    slice-aggregate-play-2
+    play-requires
+    sub-left
+    loop-less
+    loop-again
+    same-length
+    returns)

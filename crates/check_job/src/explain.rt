@@ -1,0 +1,96 @@
+// A verdict in words.
+use crate::ends;
+use crate::event;
+use crate::flash;
+use crate::flash::Found;
+use crate::refused;
+use crate::say;
+use crate::trial;
+use job::Done;
+use verdict::Verdict;
+
+fn passed(image: usize) {
+    say::text(
+        b"Play the job: on every board with this card, whatever its flash and RAM hold, it puts the image of ",
+    );
+    say::bytes(image);
+    say::text(b" in place and starts it.");
+}
+
+// The event that fails, and the board before it.
+fn failed(number: usize, packed: &[u8], card: &[u8]) {
+    let mut memory = [0u8; trial::MEMORY];
+    if number == 0 {
+        return;
+    }
+    let scene = trial::run(packed, number - 1, card, &mut memory);
+    let at = scene.at;
+    let device = scene.device;
+    if at < packed.len() {
+        event::explain(device, number, &packed[at + 1..], &memory);
+    }
+}
+
+fn ended(condition: u8, packed: &[u8], card: &[u8]) {
+    let mut memory = [0u8; trial::MEMORY];
+    let scene = trial::run(packed, packed.len(), card, &mut memory);
+    let device = scene.device;
+    ends::explain(condition, device, &memory, card);
+}
+
+// A flash byte after the job, on a board whose flash and RAM were all `old`.
+fn byte_after(offset: usize, packed: &[u8], card: &[u8], old: u8) -> u8 {
+    let mut memory = [old; trial::MEMORY];
+    trial::run(packed, packed.len(), card, &mut memory);
+    buffer::byte_at(&memory, offset)
+}
+
+// The byte that belongs into flash at an offset, in the pages of the image.
+fn wanted(offset: usize, image: &[u8]) -> u8 {
+    if offset < image.len() {
+        return image[offset];
+    }
+    0xFF
+}
+
+fn differs(offset: usize, packed: &[u8], image: &[u8], card: &[u8]) {
+    let found = Found {
+        zero: byte_after(offset, packed, card, 0),
+        erased: byte_after(offset, packed, card, 0xFF),
+        want: wanted(offset, image),
+    };
+    flash::explain(offset, image.len(), found, board::word(card, 0));
+}
+
+// A rejected job, packed.
+fn rejected(verdict: Verdict, packed: &[u8], image: &[u8], card: &[u8]) {
+    match verdict {
+        Verdict::Event(number) => failed(number, packed, card),
+        Verdict::End(condition) => ended(condition, packed, card),
+        Verdict::Flash(offset) => differs(offset, packed, image, card),
+        _ => {}
+    }
+}
+
+// Packs the job for a board to live through it.
+fn replayed(verdict: Verdict, job: &[u8], image: &[u8], card: &[u8], room: &mut [u8]) {
+    let done = job::read(job, room);
+    match done {
+        Done::Refused(_) => {}
+        Done::Bytes(count) => {
+            if count <= room.len() {
+                rejected(verdict, &room[0..count], image, card);
+            }
+        }
+    }
+}
+
+// Says a verdict to people. `room` is the checker's work area, which it needs no more; a packed job has half the bytes
+// of its text at most, and so has room there.
+pub(crate) fn explain(verdict: Verdict, job: &[u8], image: &[u8], card: &[u8], room: &mut [u8]) {
+    match verdict {
+        Verdict::Pass => passed(image.len()),
+        Verdict::Refused(why) => refused::explain(why, image.len(), card.len()),
+        _ => replayed(verdict, job, image, card, room),
+    }
+}
