@@ -1,7 +1,7 @@
 -- What the option bytes protect. Document 01, "The board", our option layout. Assumes nothing.
-use mathlib.Core.Bool.{Bool, not}
+use mathlib.Core.Bool.{Bool, false, not, _||_}
 use mathlib.Core.List.{List}
-use Prim.Native.Nat.{ℕ, _+_, _*_, _/_, _%_, _^_}
+use Prim.Native.Nat.{ℕ, zero, suc, _+_, _*_, _/_, _%_, _^_}
 use lib.Dec.{eqb}
 use lib.ListN.{getD}
 use Rattle.board.specs.Layout.{optionsFrom}
@@ -24,3 +24,8 @@ wordOf n m = wordFrom (optionsFrom n) m
 -- "hold one bit a page; a clear bit write-protects that page"
 unfoldable pub writeProtected : ℕ → ℕ → Bool
 writeProtected word page = eqb (word / 2 ^ page % 2) 0
+
+-- one of `count` pages from `page` on is write-protected
+unfoldable pub anyProtected : ℕ → ℕ → ℕ → Bool
+anyProtected word zero page = false
+anyProtected word (suc count) page = writeProtected word page || anyProtected word count (suc page)

@@ -2,7 +2,7 @@
 ghost use mathlib.Core.Path.{_≡_};
 ghost use Rattle.board.specs.Layout.{flashBytes, ramFrom, optionsFrom, memoryBytes, defaults};
 ghost use Rattle.board.specs.Span.{placeOf, spans};
-ghost use Rattle.board.specs.Protection.{lockedFrom, wordFrom, writeProtected, wordOf, readProtected};
+ghost use Rattle.board.specs.Protection.{lockedFrom, wordFrom, writeProtected, anyProtected, wordOf, readProtected};
 
 // A board is known by its number of flash pages; all else of the layout follows.
 pub struct Board {
@@ -137,4 +137,17 @@ pub fn write_protected(word: u32, page: usize) -> bool
         return true;
     }
     (word >> page) & 1 == 0
+}
+
+// Is one of the first `count` pages write-protected?
+pub fn any_protected(word: u32, count: usize) -> bool
+    ensures { λ r. ⌜ r ≡ anyProtected word count 0 ⌝ }
+{
+    let mut any = false;
+    let mut page = 0;
+    while page < count {
+        any = any | write_protected(word, page);
+        page += 1;
+    }
+    any
 }

@@ -3,3 +3,4 @@ pub mod Answers
 pub mod Walking
 pub mod Advancing
 pub mod Judging
+pub mod Opened

@@ -86,7 +86,18 @@ fn erase(board: Board, work: &mut [u8], word: u32, page: usize)
     mark(board, work, from, to, 1);
 }
 
-fn erase_all(board: Board, work: &mut [u8], word: u32)
+// All of the flash is erased on every board.
+fn erase_flash(board: Board, work: &mut [u8])
+    requires { ⌜ length (now work) ≡ workBytes (board .pages) ⌝ }
+    ensures { λ _. ⌜ now (work .exit) ≡ learnt (board .pages) 0 (replicate (flashBytes (board .pages)) 0xFF) (now (work .entry)) ⌝ }
+{
+    let size = board.flash_bytes();
+    buffer::fill(work, 0, size, 0xFF);
+    mark(board, work, 0, size, 1);
+}
+
+// Every page is erased on every board, unless it is write-protected.
+fn erase_pages(board: Board, work: &mut [u8], word: u32)
     requires { ⌜ length (now work) ≡ workBytes (board .pages) ⌝ }
     ensures { λ _. ⌜ now (work .exit) ≡ pagesErased (board .pages) word (board .pages) 0 (now (work .entry)) ⌝ }
 {
@@ -96,6 +107,18 @@ fn erase_all(board: Board, work: &mut [u8], word: u32)
         erase(board, work, word, page);
         page += 1;
     }
+}
+
+// The same; where no page is write-protected, in two long fills.
+fn erase_all(board: Board, work: &mut [u8], word: u32)
+    requires { ⌜ length (now work) ≡ workBytes (board .pages) ⌝ }
+    ensures { λ _. ⌜ now (work .exit) ≡ pagesErased (board .pages) word (board .pages) 0 (now (work .entry)) ⌝ }
+{
+    if board::any_protected(word, board.pages as usize) {
+        erase_pages(board, work, word);
+        return;
+    }
+    erase_flash(board, work);
 }
 
 // The first `count` bytes of the block go to memory from place `at` on, but for those in write-protected pages.

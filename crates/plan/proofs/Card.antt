@@ -2,15 +2,15 @@
 use mathlib.Core.Path.{_≡_, _∙_, sym}
 use mathlib.Core.Bool.{true, false, true≢false}
 use mathlib.Core.List.{List}
-use Prim.Native.Nat.{ℕ, suc, _+_, _*_, _^_, _<_}
+use Prim.Native.Nat.{ℕ, _+_, _*_, _^_, _<_}
 use native.Mathlib.Omega.{arith}
 use lib.ListN.{getD}
 use Rattle.laws.proofs.Split.{by-lt, or-false}
-use Rattle.board.specs.Protection.{lockedFrom, wordFrom, writeProtected}
+use Rattle.board.specs.Protection.{lockedFrom, wordFrom, writeProtected, anyProtected}
 use Rattle.board.proofs.Protection.{protected-past}
 use Rattle.hex.specs.Hex.{allBytes}
 use Rattle.hex.proofs.Bytes.{byte-at}
-use Rattle.plan.specs.Plan.{pagesOf, anyProtected, barred}
+use Rattle.plan.specs.Plan.{pagesOf, barred}
 
 word-small : (card : List ℕ) → allBytes card ≡ true → wordFrom 0 card < 2 ^ 32
 unfolding wordFrom
@@ -28,7 +28,3 @@ free-page-small card page bytes e =
 pub barred-parts : (image card : List ℕ) → barred image card ≡ false → (lockedFrom 0 card ≡ false) × (anyProtected (wordFrom 0 card) (pagesOf image) 0 ≡ false)
 unfolding barred
 barred-parts image card e = or-false (lockedFrom 0 card) (anyProtected (wordFrom 0 card) (pagesOf image) 0) e
-
-pub protected-parts : (word count page : ℕ) → anyProtected word (suc count) page ≡ false → (writeProtected word page ≡ false) × (anyProtected word count (suc page) ≡ false)
-unfolding anyProtected
-protected-parts word count page e = or-false (writeProtected word page) (anyProtected word count (suc page)) e

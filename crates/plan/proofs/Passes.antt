@@ -9,7 +9,8 @@ use lib.Seq.{ext-getD, getD-take, getD-drop, length-take-le}
 use borrow.Author.Tests.{eq-eqb, lt-ltb, le-ltb}
 use Rattle.laws.proofs.Split.{by-lt}
 use Rattle.board.specs.Layout.{pageBytes, flashFirst, flashBytes, optionsFrom, optionBytes}
-use Rattle.board.specs.Protection.{lockedFrom, wordFrom}
+use Rattle.board.specs.Protection.{lockedFrom, wordFrom, anyProtected}
+use Rattle.board.proofs.Protection.{none-parts}
 use Rattle.request.specs.declared.Request.the-variants.{Download}
 use Rattle.device.specs.declared.Mode.{Mode}
 use Rattle.device.specs.declared.Mode.the-variants.{Idle, DownloadIdle, ManifestSync, Left}
@@ -21,11 +22,11 @@ use Rattle.verdict.specs.declared.Verdict.the-variants as verdict
 use Rattle.verdict.specs.Verdict.{pagesEnd}
 use Rattle.verdict.specs.Checked.{workBytes}
 use Rattle.cells.specs.Cells.{begun, Over, ended, overOf, suspect, lowestFrom, endVerdict, overVerdict, verdictOf}
-use Rattle.plan.specs.Plan.{pageAddress, padded, pageOf, getStatus, download, leaving, pagesFrom, pagesOf, planEvents, anyProtected, barred}
+use Rattle.plan.specs.Plan.{pageAddress, padded, pageOf, getStatus, download, leaving, pagesFrom, pagesOf, planEvents, barred}
 use Rattle.plan.proofs.Requests.{resting, start-free, idle-free, over-on, leave-moves, manifest-moves, pointer-polled}
 use Rattle.plan.proofs.Written.{default-same}
 use Rattle.plan.proofs.Image.{padded-two, padded-most, page-most, page-some}
-use Rattle.plan.proofs.Card.{free-page-small, barred-parts, protected-parts}
+use Rattle.plan.proofs.Card.{free-page-small, barred-parts}
 use Rattle.plan.proofs.Pages.{Placed, begun-placed, placed-on, pageWritten, written-learns, page-polled}
 
 -- "Then set pointer 0x08000000, two GETSTATUS, DNLOAD of length 0, one GETSTATUS"
@@ -56,7 +57,7 @@ module _ (n : ℕ) (image card : List ℕ) (some : 1 ≤ n) (bytes : allBytes ca
   pages-over (suc count) page mode p w k heard free all unbarred placed =
       let word : ℕ = wordFrom 0 card in
       let xs : List ℕ = padded (pageOf image page) in
-      let parts = protected-parts word count page unbarred in
+      let parts = none-parts word count page unbarred in
       let below : page < pagesOf image = omega arith in
       let inside : page < n = omega arith in
       let few : page < 32 = free-page-small card page bytes (parts .0) in

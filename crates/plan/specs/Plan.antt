@@ -1,11 +1,11 @@
 -- The plan of an image. Document 01, "The checker and the plan", last paragraph, and the rows of "Refusal numbers" that name the plan. Assumes nothing.
-use mathlib.Core.Bool.{Bool, false, cond, _||_}
+use mathlib.Core.Bool.{Bool, cond, _||_}
 use mathlib.Core.List.{List, [], _∷_, _++_}
 use Prim.Native.Nat.{ℕ, zero, suc, _+_, _-_, _*_, _/_}
 use lib.Dec.{eqb}
 use lib.ListN.{length, take, drop}
 use Rattle.board.specs.Layout.{pageBytes, flashFirst}
-use Rattle.board.specs.Protection.{lockedFrom, wordFrom, writeProtected}
+use Rattle.board.specs.Protection.{lockedFrom, wordFrom, anyProtected}
 use Rattle.request.specs.Spelled.{four, downloading, gettingStatus}
 use Rattle.refusal.specs.declared.Refusal.the-variants.{Protected}
 use Rattle.loader.specs.declared.Admission.{Admission}
@@ -67,11 +67,6 @@ planEvents image = pagesFrom image (pagesOf image) 0
 -- the plan
 unfoldable pub planOf : List ℕ → List ℕ
 planOf image = textOf (planEvents image)
-
--- one of `count` pages from `page` on is write-protected
-unfoldable pub anyProtected : ℕ → ℕ → ℕ → Bool
-anyProtected word zero page = false
-anyProtected word (suc count) page = writeProtected word page || anyProtected word count (suc page)
 
 -- row 12: "card read-protected, or an image page write-protected"
 unfoldable pub barred : List ℕ → List ℕ → Bool

@@ -13,7 +13,7 @@ ghost use Rattle.board.specs.Layout.{loggerPages, pageBytes};
 ghost use Rattle.job.specs.Event.{request, lineOf};
 ghost use Rattle.job.specs.Calls.{left};
 ghost use Rattle.request.specs.Spelled.{four};
-ghost use Rattle.plan.specs.Plan.{download, getStatus, padded, pagesOf, planOf, anyProtected, barred, planned};
+ghost use Rattle.plan.specs.Plan.{download, getStatus, padded, pagesOf, planOf, barred, planned};
 ghost use Rattle.plan.specs.Parts.{polledText, pageText, leavingText, Laid, statusBytes, sentBytes, leavingBytes, paddedLength, pageLines, mostBytes};
 
 // The command bytes of a DNLOAD with wValue 0: set pointer and erase page.
@@ -38,20 +38,6 @@ fn pages_of(image: &[u8]) -> usize
     (image.len() + (Board::PAGE - 1)) / Board::PAGE
 }
 
-// Is one of the first `count` pages write-protected?
-fn any_protected(word: u32, count: usize) -> bool
-    ensures { λ r. ⌜ r ≡ anyProtected word count 0 ⌝ }
-{
-    let mut page = 0;
-    while page < count {
-        if board::write_protected(word, page) {
-            return true;
-        }
-        page += 1;
-    }
-    false
-}
-
 // Does the card keep the image from being written?
 fn barred(image: &[u8], card: &[u8]) -> bool
     ensures { λ r. ⌜ r ≡ barred (now (image .entry)) (now (card .entry)) ⌝ }
@@ -59,7 +45,7 @@ fn barred(image: &[u8], card: &[u8]) -> bool
     if board::locked(card, 0) {
         return true;
     }
-    any_protected(board::word(card, 0), pages_of(image))
+    board::any_protected(board::word(card, 0), pages_of(image))
 }
 
 // How many bytes a block of so many bytes of the image has: a single one gets a second.

@@ -6,10 +6,10 @@ use native.Mathlib.Nat.{add-zero}
 use native.Mathlib.Omega.{arith}
 use lib.ListN.{length, take, drop, set, length-append}
 use borrow.Author.Tests.{lt-leb}
-use lib.Seq.{sets, drop-cons, take-set-le, drop-set-add}
+use lib.Seq.{drop-cons, take-set-le, drop-set-add}
 use Rattle.laws.specs.Bytes.{put}
-use Rattle.laws.proofs.Bytes.{sets-put, put-length}
-use Rattle.laws.proofs.Append.{sets-append}
+use Rattle.laws.proofs.Bytes.{sets-put}
+use Rattle.laws.proofs.Append.{put-behind}
 use Rattle.refusal.specs.declared.Refusal.the-variants.{Output}
 use Rattle.job.specs.declared.Done.the-variants.{Bytes, Refused}
 use Rattle.job.specs.Calls.{left, delivered}
@@ -53,19 +53,6 @@ field-end at rest byte m h room b =
     let l : at + 1 ≤ length m = omega arith in
     let e : byte ≡ 48 + rest = omega arith in
     sets-put (byte ∷ []) m at l ∙ ap (λ (x : ℕ). put at (x ∷ []) m) e ∙ ap (λ (xs : List ℕ). put at xs m) (sym (one-digit rest h))
-
--- bytes laid behind bytes
-pub put-behind : (at j : ℕ) (xs ys m : List ℕ) → j ≡ at + length xs → j + length ys ≤ length m → put j ys (put at xs m) ≡ put at (xs ++ ys) m
-put-behind at j xs ys m e h =
-    let a : at + length xs ≤ length m = omega arith in
-    let f : length (xs ++ ys) ≡ length xs + length ys = length-append xs ys in
-    let b : at + length (xs ++ ys) ≤ length m = omega arith in
-    let g : length (put at xs m) ≡ length m = put-length at xs m a in
-    let c : j + length ys ≤ length (put at xs m) = omega arith in
-    sym (sets-put ys (put at xs m) j c)
-    ∙ ap₂ (λ (l : List ℕ) (k : ℕ). sets l k ys) (sym (sets-put xs m at a)) e
-    ∙ sym (sets-append xs ys m at)
-    ∙ sets-put (xs ++ ys) m at b
 
 word-length : (v : Verdict) → length (wordOf v ++ tab) ≡ 7
 word-length verdict.Pass = refl

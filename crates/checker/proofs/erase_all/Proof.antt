@@ -1,58 +1,45 @@
 -- `checker::erase_all` meets its contract. Assumes nothing.
-use native.Mathlib.Omega.{arith}
-use Rattle.checker.proofs.Loops.{erase-turn, erase-end}
-use Rattle.cells.specs.Cells.{pagesErased}
-use lib.ListN.{length}
-use native.Mathlib.Nat.{sub-zero}
-use Prim.Native.Nat.{_-_}
-use mathlib.Core.Path.{_≡_, refl, sym, _∙_}
+use Rattle.checker.proofs.Opened.{flash-erased}
+use mathlib.Core.Path.{_∙_, sym}
+use borrow.Author.Needs.{needs}
 use Rattle.checker.proofs.erase_all.Statement.{statement}
 use Rattle.checker.proofs.erase_all.Tie as tie
 
-abbrev Inv-loop : tie.InvT-loop
-Inv-loop board work₀ word pages page₀ work page = (pagesErased (board .pages) word (pages - page) page work ≡ pagesErased (board .pages) word pages 0 work₀) × (length work ≡ length work₀)
+cast-any-protected : tie.Need-cast-any-protected
+cast-any-protected c = search needs
 
-abbrev μ-loop : tie.MeasureT-loop
-μ-loop board work₀ word pages page₀ work page = pages - page
+any-protected-requires : tie.Need-any-protected-requires
+any-protected-requires c κs = search needs
 
-cast-pages : tie.Need-cast-pages Inv-loop μ-loop
-cast-pages c = omega arith
+erase-pages-requires : tie.Need-erase-pages-requires
+erase-pages-requires c κs = search needs
 
-loop-holds : tie.Need-loop-holds Inv-loop μ-loop
-loop-holds c = (rw sub-zero, refl)
+same-length : tie.Need-same-length
+same-length c = search needs
 
-erase-requires : tie.Need-erase-requires Inv-loop μ-loop
-erase-requires c κs = omega arith
+returns : tie.Need-returns
+returns c = search needs
 
-add-page : tie.Need-add-page Inv-loop μ-loop
-add-page c = omega arith
+erase-flash-requires : tie.Need-erase-flash-requires
+erase-flash-requires c κs = search needs
 
-loop-less : tie.Need-loop-less Inv-loop μ-loop
-loop-less c = omega arith
+same-length-2 : tie.Need-same-length-2
+same-length-2 c = search needs
 
-loop-again : tie.Need-loop-again Inv-loop μ-loop
-loop-again c =
-    let e = c .before .before in
-    let l = e .before .before .before in
-    (rw (e .erase .ensures) (sym (erase-turn _ _ _ _ _ (e .before .before .loop-test .taken)) ∙ l .loop .inv .0), omega (arith, e .erase .kept, l .loop .inv .1))
-
-same-length : tie.Need-same-length Inv-loop μ-loop
-same-length c = c .before .loop .inv .1
-
-returns : tie.Need-returns Inv-loop μ-loop
-returns c = sym (erase-end _ _ _ _ _ (c .loop-test .left)) ∙ c .before .loop .inv .0
+returns-2 : tie.Need-returns-2
+returns-2 c =
+    let t = c .before .before .before .before in
+    c .before .before .erase-flash .ensures ∙ flash-erased _ _ _ (t .before .before .before .before .pre) (sym (t .before .any-protected .ensures) ∙ t .if1 .left)
 
 pub erase-all-spec : {M : Type 1} → statement M
 erase-all-spec =
     tie.close
     (tie.spec
-    Inv-loop
-    μ-loop
-    cast-pages
-    loop-holds
-    erase-requires
-    add-page
-    loop-less
-    loop-again
+    cast-any-protected
+    any-protected-requires
+    erase-pages-requires
     same-length
-    returns)
+    returns
+    erase-flash-requires
+    same-length-2
+    returns-2)
