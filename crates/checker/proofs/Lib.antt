@@ -3,4 +3,5 @@ pub mod Answers
 pub mod Walking
 pub mod Advancing
 pub mod Judging
+pub mod Alike
 pub mod Opened

@@ -1,21 +1,27 @@
 -- Where no page is write-protected: an erase of all flash at once, and a store that is a copy. Assumes nothing.
 use mathlib.Core.Path.{_≡_, refl, ap, ap₂, _∙_, sym}
-use mathlib.Core.Bool.{Bool, true, false, cond}
+use mathlib.Core.Bool.{Bool, true, false, cond, not, _&&_, _||_}
 use mathlib.Core.List.{List, [], _∷_, _++_, append-nil, append-assoc}
 use Prim.Native.Nat.{ℕ, zero, suc, _+_, _-_, _*_, _/_, _≤_, _<_}
 use native.Mathlib.Omega.{arith}
-use native.Mathlib.Nat.{add-zero}
+use native.Mathlib.Nat.{add-zero, not-suc-le-zero, le-of-suc-le-suc}
+use lib.Dec.{eqb, leb}
 use lib.ListN.{length, take, drop, replicate, length-append, length-replicate, length-drop, take-append-drop, replicate-append-replicate}
 use lib.Seq.{drop-drop}
+use borrow.Author.Tests.{leb-true, le-leb, lt-leb, not-true}
 use Rattle.laws.specs.Bytes.{put, filled}
 use Rattle.laws.proofs.Bytes.{put-length}
 use Rattle.laws.proofs.Append.{put-behind, put-apart}
+use Rattle.laws.proofs.Split.{and-true}
 use Rattle.board.specs.Layout.{pageBytes, flashBytes, memoryBytes}
 use Rattle.board.specs.Protection.{writeProtected, anyProtected}
 use Rattle.board.proofs.Protection.{none-parts, none-at}
-use Rattle.memory.specs.Flash.{kept, laid, stored}
+use Rattle.request.specs.Request.{transferBytes}
+use Rattle.memory.specs.Flash.{kept, each, blank, laid, stored}
 use Rattle.verdict.specs.Checked.{workBytes}
-use Rattle.cells.specs.Cells.{marked, learnt, pageErased, pagesErased}
+use Rattle.cells.specs.Cells.{blockOf, marked, learnt, pageErased, pagesErased}
+use Rattle.checker.specs.Walk.{allAre}
+use Rattle.checker.proofs.Answers.{block-has}
 
 -- values learnt behind values are learnt with them
 module _ (n from at : ℕ) (xs ys w : List ℕ) (e : at ≡ from + length xs) (h : at + length ys ≤ memoryBytes n) (l : length w ≡ workBytes n) where
@@ -124,3 +130,75 @@ flash-is n size w w₁ w₂ e a b =
     let all : List ℕ = replicate (flashBytes n) 0xFF in
     let l : length all ≡ flashBytes n = length-replicate {A = ℕ} (flashBytes n) 0xFF in
     b ∙ rw (a, k, l)
+
+-- a store that spares no place is a copy
+laid-open : (word i : ℕ) (xs ms : List ℕ) → length xs ≤ length ms → ((k : ℕ) → i ≤ k → k < i + length xs → kept word k ≡ false) → laid word i xs ms ≡ xs ++ drop (length xs) ms
+unfolding laid
+laid-open word i [] ms h free = refl
+laid-open word i (x ∷ xs) [] h free = absurd (not-suc-le-zero h)
+laid-open word i (x ∷ xs) (m ∷ ms) h free =
+    let here : kept word i ≡ false = free i (omega arith) (omega arith) in
+    let rest : laid word (suc i) xs ms ≡ xs ++ drop (length xs) ms =
+    laid-open word (suc i) xs ms (le-of-suc-le-suc h) (λ k a b. free k (omega arith) (omega arith)) in
+    rw (here, rest)
+
+stored-put : (word at : ℕ) (xs m : List ℕ) → at + length xs ≤ length m → ((k : ℕ) → at ≤ k → k < at + length xs → kept word k ≡ false) → stored word at xs m ≡ put at xs m
+unfolding stored put
+stored-put word at xs m h free =
+    let room : length xs ≤ length (drop at m) = rw length-drop (omega arith) in
+    ap (λ (l : List ℕ). take at m ++ l) (laid-open word at xs (drop at m) room free ∙ ap (λ (l : List ℕ). xs ++ l) (drop-drop (length xs) at m))
+    ∙ sym (append-assoc (take at m) xs (drop (at + length xs) m))
+
+or-none : (a : Bool) → a || false ≡ a
+or-none true = refl
+or-none false = refl
+
+-- a test that spares no place
+each-free : (v word i n : ℕ) (ms : List ℕ) → ((k : ℕ) → i ≤ k → k < i + n → kept word k ≡ false) → allAre v n ms ≡ each v word i n ms
+unfolding each allAre
+each-free v word i zero ms free = refl
+each-free v word i (suc n) [] free = refl
+each-free v word i (suc n) (m ∷ ms) free =
+    let here : kept word i ≡ false = free i (omega arith) (omega arith) in
+    let rest : allAre v n ms ≡ each v word (suc i) n ms = each-free v word (suc i) n ms (λ k a b. free k (omega arith) (omega arith)) in
+    rw (here, rest, or-none (eqb m v))
+
+-- the test for it
+pub open-past : (n word end size : ℕ) → size ≡ flashBytes n → size < end → false ≡ leb end (flashBytes n) && not (anyProtected word n 0)
+open-past n word end size e h =
+    let k : flashBytes n < end = omega arith in
+    sym (rw (lt-leb end (flashBytes n) k))
+
+pub open-pages : (n word end size : ℕ) (any : Bool) → size ≡ flashBytes n → end ≤ size → any ≡ anyProtected word n 0 → not any ≡ leb end (flashBytes n) && not (anyProtected word n 0)
+open-pages n word end size any e h a =
+    let k : end ≤ flashBytes n = omega arith in
+    rw (le-leb end (flashBytes n) k, a)
+
+-- a span of flash, with no page write-protected
+module _ (n word at count : ℕ) (w : List ℕ) (l : length w ≡ workBytes n) (o : leb (at + count) (flashBytes n) && not (anyProtected word n 0) ≡ true) where
+  free-there : (k : ℕ) → at ≤ k → k < at + count → kept word k ≡ false
+  free-there k a b =
+      let parts = and-true (leb (at + count) (flashBytes n)) (not (anyProtected word n 0)) o in
+      let room : at + count ≤ flashBytes n = leb-true (at + count) (flashBytes n) (parts .0) in
+      let low : 0 ≤ k / pageBytes = omega arith in
+      let page : k / pageBytes < 0 + n = omega arith in
+      none-at word n 0 (not-true (anyProtected word n 0) (parts .1)) (k / pageBytes) low page
+
+  pub blank-there : (b : Bool) → b ≡ allAre 0xFF (at + count - at) (drop at w) → b ≡ blank word at count w
+  unfolding blank
+  blank-there b h =
+      let k : at + count - at ≡ count = omega arith in
+      h ∙ rw k (each-free 0xFF word at count (drop at w) free-there)
+
+  pub known-there : (marks : ℕ) (b : Bool) → marks ≡ memoryBytes n → b ≡ allAre 1 (marks + (at + count) - (marks + at)) (drop (marks + at) w) → b ≡ each 1 word at count (drop (memoryBytes n + at) w)
+  known-there marks b m h =
+      let k : marks + (at + count) - (marks + at) ≡ count = omega arith in
+      h ∙ rw (k, m) (each-free 1 word at count (drop (memoryBytes n + at) w) free-there)
+
+  pub stored-there : (w′ : List ℕ) → count ≤ transferBytes → w′ ≡ put at (blockOf n count w) w → w′ ≡ stored word at (blockOf n count w) w
+  stored-there w′ c e =
+      let has : length (blockOf n count w) ≡ count = block-has n count w l c in
+      let parts = and-true (leb (at + count) (flashBytes n)) (not (anyProtected word n 0)) o in
+      let flash : at + count ≤ flashBytes n = leb-true (at + count) (flashBytes n) (parts .0) in
+      let room : at + length (blockOf n count w) ≤ length w = omega arith in
+      e ∙ sym (stored-put word at (blockOf n count w) w room (λ k a b. free-there k a (omega arith)))

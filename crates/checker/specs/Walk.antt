@@ -1,8 +1,9 @@
 -- How what the checker's inner functions answer is read: a device of the proof, which no public promise names. Assumes nothing.
 use mathlib.Core.Path.{_≡_}
-use mathlib.Core.Bool.{true}
-use mathlib.Core.List.{List}
-use Prim.Native.Nat.{ℕ, suc, _≤_, _<_}
+use mathlib.Core.Bool.{Bool, true, _&&_}
+use mathlib.Core.List.{List, [], _∷_}
+use Prim.Native.Nat.{ℕ, zero, suc, _≤_, _<_}
+use lib.Dec.{eqb}
 use lib.ListN.{length, drop}
 use Rattle.device.specs.declared.Device.{Device}
 use Rattle.device.specs.WellFormed.{wellFormed}
@@ -42,3 +43,9 @@ Advanced n t at d w (onward.Goes d′ behind) w′ = Further n t at d w d′ beh
 abbrev pub overAs : Outcome → List ℕ → Over
 overAs (outcome.Fell k) w = fell k
 overAs (outcome.Ended d) w = ended d w
+
+-- the first n of the bytes ms are all v
+unfoldable pub allAre : ℕ → ℕ → List ℕ → Bool
+allAre v zero ms = true
+allAre v (suc n) [] = true
+allAre v (suc n) (m ∷ ms) = eqb m v && allAre v n ms

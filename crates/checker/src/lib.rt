@@ -2,12 +2,13 @@
 // them, a value and a mark for each byte of memory, and the block that waits to be written.
 ghost use mathlib.Core.Path.{_≡_};
 ghost use mathlib.Core.Bool.{true, not, _&&_};
-ghost use lib.Dec.{eqb};
+ghost use lib.Dec.{eqb, leb};
 ghost use mathlib.Core.List.{List};
 ghost use Prim.Native.Nat.{ℕ, _+_, _-_, _*_, _/_, _≤_, _<_};
 ghost use lib.ListN.{length, drop, getD, replicate};
 ghost use Rattle.laws.specs.Bytes.{put, filled};
 ghost use Rattle.board.specs.Layout.{loggerPages, pageBytes, flashBytes, ramFrom, ramBytes, optionBytes, memoryBytes};
+ghost use Rattle.board.specs.Protection.{anyProtected};
 ghost use Rattle.request.specs.Request.{transferBytes};
 ghost use Rattle.request.specs.Setup.{dataLength};
 ghost use Rattle.device.specs.State.{started};
@@ -21,7 +22,7 @@ ghost use Rattle.job.specs.Event.{same};
 ghost use Rattle.job.specs.Text.{eventsOf};
 ghost use Rattle.job.specs.Calls.{measureOf};
 ghost use Rattle.verdict.specs.Verdict.{isLeft};
-ghost use Rattle.checker.specs.Walk.{movedAs, Ahead, Advanced, overAs};
+ghost use Rattle.checker.specs.Walk.{movedAs, Ahead, Advanced, overAs, allAre};
 ghost use Rattle.verdict.specs.Checked.{workBytes, readable, checkable, Checked};
 ghost use Rattle.cells.specs.Cells.{blockFrom, marked, learnt, blockOf, pageErased, pagesErased, worked, workedOf, writes, reports, statusMoves, readsMoves, requestMoves, begun, overOf, suspect, lowestFrom, endNumber, endVerdict, verdictOf};
 use action::Access;
@@ -149,8 +150,32 @@ fn copy(board: Board, work: &mut [u8], at: usize, count: usize)
     }
 }
 
-// A write to flash: on every board, or on some board an error.
-fn write(board: Board, work: &mut [u8], word: u32, at: usize, count: usize) -> u8
+// Is each byte from place `from` up to place `to` this one? It looks at them all, so that many can be compared at a time.
+fn all_are(bytes: &[u8], from: usize, to: usize, byte: u8) -> bool
+    requires { ⌜ (from ≤ to) × (to ≤ length (now bytes)) ⌝ }
+    ensures { λ r. ⌜ r ≡ allAre byte (to - from) (drop from (now (bytes .entry))) ⌝ }
+{
+    let mut alike = true;
+    let mut i = from;
+    while i < to {
+        alike = alike & (bytes[i] == byte);
+        i += 1;
+    }
+    alike
+}
+
+// Do the bytes up to place `end` lie in flash, and is no page write-protected?
+fn is_open(board: Board, word: u32, end: usize) -> bool
+    ensures { λ r. ⌜ r ≡ leb end (flashBytes (board .pages)) && not (anyProtected word (board .pages) 0) ⌝ }
+{
+    if board.flash_bytes() < end {
+        return false;
+    }
+    !board::any_protected(word, board.pages as usize)
+}
+
+// A write to flash that spares write-protected pages: on every board, or on some board an error.
+fn write_sparing(board: Board, work: &mut [u8], word: u32, at: usize, count: usize) -> u8
     requires { ⌜ (at + count ≤ memoryBytes (board .pages)) × (count ≤ transferBytes) × (length (now work) ≡ workBytes (board .pages)) ⌝ }
     ensures { λ r. ⌜ worked r (now (work .exit)) ≡ writes (board .pages) word at count (now (work .entry)) ⌝ }
 {
@@ -161,6 +186,26 @@ fn write(board: Board, work: &mut [u8], word: u32, at: usize, count: usize) -> u
         return Device::WRITE;
     }
     store(board, work, word, at, count);
+    0
+}
+
+// The same; where no page is write-protected, none is asked for at each byte.
+fn write(board: Board, work: &mut [u8], word: u32, at: usize, count: usize) -> u8
+    requires { ⌜ (at + count ≤ memoryBytes (board .pages)) × (count ≤ transferBytes) × (length (now work) ≡ workBytes (board .pages)) ⌝ }
+    ensures { λ r. ⌜ worked r (now (work .exit)) ≡ writes (board .pages) word at count (now (work .entry)) ⌝ }
+{
+    let end = at + count;
+    if !is_open(board, word, end) {
+        return write_sparing(board, work, word, at, count);
+    }
+    let marks = board.memory_bytes();
+    if !all_are(work, at, end, 0xFF) {
+        return Device::WRITE;
+    }
+    if !all_are(work, marks + at, marks + end, 1) {
+        return Device::WRITE;
+    }
+    copy(board, work, at, count);
     0
 }
 
