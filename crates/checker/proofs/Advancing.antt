@@ -1,11 +1,12 @@
 -- The walk over a job's text: one event further, or one that fails. Assumes nothing.
 use mathlib.Core.Path.{_≡_, refl, ap, ap₂, _∙_, sym}
-use mathlib.Core.Bool.{true}
+use mathlib.Core.Bool.{Bool, true, false, cond, false≢true}
 use mathlib.Core.List.{List, [], _∷_}
 use Prim.Native.Nat.{ℕ, suc, _+_, _-_, _*_, _≤_, _<_}
 use native.Mathlib.Omega.{arith}
 use native.Mathlib.Numerals.{add-one}
 use lib.ListN.{length, take, drop, length-drop, drop-of-length-le}
+use lib.Seq.{length-take-le}
 use Rattle.request.specs.declared.Setup.{Setup}
 use Rattle.request.specs.Setup.{setupOf, dataLength}
 use Rattle.device.specs.declared.Device.{Device}
@@ -23,9 +24,7 @@ use Rattle.job.proofs.WalkEvents.{Beyond, Attached, Requested, formed-here, end
 use Rattle.cells.specs.Cells.{Over, fell, ended, falls, goes, requestMoves, moves, overOf}
 use Rattle.cells.proofs.InForm.{moves-form}
 use Rattle.checker.specs.declared.Step.{Step}
-use Rattle.checker.specs.declared.Step.the-variants as step
 use Rattle.checker.specs.declared.Onward.{Onward}
-use Rattle.checker.specs.declared.Onward.the-variants as onward
 use Rattle.checker.specs.Walk.{movedAs, Ahead, Further, Advanced}
 
 -- what stands at a place from which on the text is that of its events
@@ -46,17 +45,26 @@ module _ (t : List ℕ) (at : ℕ) (a : Ahead t at) where
   pub never-bad : itemOf t at ≡ item.Bad → ⊥
   never-bad i = bad-never t at (eventsOf (drop at t)) (a .text) (a .right) i
 
-  module _ (s : Setup) (data-at next end : ℕ) (i : itemOf t at ≡ item.Request s data-at next) (e : end ≡ data-at + dataLength s * 2) where
+  -- a request's data stand between its last tab and the LF in front of the next line
+  module _ (s : Setup) (data-at next : ℕ) (i : itemOf t at ≡ item.Request s data-at next) where
     tells : Requested t at (eventsOf (drop at t)) s data-at next
     tells = request-tells t at s data-at next (eventsOf (drop at t)) (a .text) (a .right) i
 
-    -- the digits of a request's data lie in the text
-    pub data-within : end ≤ length t
-    data-within = let h = tells .data-within in omega arith
+    pub data-within : (1 ≤ next) × (data-at ≤ next - 1) × (next - 1 ≤ length t) × (next - 1 - data-at ≡ dataLength s * 2)
+    data-within =
+        let h = tells .ends in
+        let m = tells .onward .within in
+        (omega arith, omega arith, omega arith, omega arith)
+
+    pub data-digits : length (take (next - 1 - data-at) (drop data-at t)) ≡ dataLength s * 2
+    data-digits =
+        let h = data-within in
+        let r : length (drop data-at t) ≡ length t - data-at = length-drop data-at t in
+        length-take-le (next - 1 - data-at) (drop data-at t) (omega arith) ∙ h .3
 
     -- its bytes are what its setup and its digits spell
-    spells : bytesOf (take (end - data-at) (drop data-at t)) ≡ drop 8 (tells .bytes)
-    spells = let l : end - data-at ≡ dataLength s * 2 = omega arith in ap (λ (k : ℕ). bytesOf (take k (drop data-at t))) l ∙ tells .data-bytes
+    spells : bytesOf (take (next - 1 - data-at) (drop data-at t)) ≡ drop 8 (tells .bytes)
+    spells = ap (λ (k : ℕ). bytesOf (take k (drop data-at t))) (data-within .3) ∙ tells .data-bytes
 
 module _ (n : ℕ) (t : List ℕ) (at : ℕ) (d : Device) (w : List ℕ) (a : Ahead t at) where
   -- an event that fails
@@ -78,37 +86,37 @@ module _ (n : ℕ) (t : List ℕ) (at : ℕ) (d : Device) (w : List ℕ) (a : Ah
           form = well-formed n d′ (moves-form n d w e d′ w′ some (form-of n d f) m);
         }
 
-    pub attach-further : (next : ℕ) → itemOf t at ≡ item.Attach next → Further n t at d w started next w
+    pub attach-advanced : (next : ℕ) (d′ : Device) → itemOf t at ≡ item.Attach next → d′ ≡ started → Advanced n t at d w (record { falls = false; device = d′; behind = next }) w
     unfolding moves
-    attach-further next i =
+    attach-advanced next d′ i e =
         let x = attach-tells t at next (eventsOf (drop at t)) (a .text) (a .right) i in
-        further attach (x .rest) next (x .events) (x .onward) started w refl
+        rw e (record { fallen = λ z. absurd (false≢true z); further = λ z. further attach (x .rest) next (x .events) (x .onward) started w refl })
 
-  -- a request, with what the step r made of it and of the work area
-  module _ (s : Setup) (data-at next end : ℕ) (i : itemOf t at ≡ item.Request s data-at next) (e : end ≡ data-at + dataLength s * 2) (r : Step) (w′ : List ℕ) (did : movedAs r w′ ≡ requestMoves n d s (bytesOf (take (end - data-at) (drop data-at t))) w) where
+  -- a request, with what the step g made of it and of the work area
+  module _ (s : Setup) (data-at next : ℕ) (i : itemOf t at ≡ item.Request s data-at next) (g : Step) (w′ : List ℕ) (did : movedAs g w′ ≡ requestMoves n d s (bytesOf (take (next - 1 - data-at) (drop data-at t))) w) where
     asks : Requested t at (eventsOf (drop at t)) s data-at next
-    asks = tells t at a s data-at next end i e
+    asks = tells t at a s data-at next i
 
-    moves-as : moves n d w (request (asks .bytes)) ≡ movedAs r w′
+    moves-as : (b : Bool) → g .falls ≡ b → moves n d w (request (asks .bytes)) ≡ cond b falls (goes (g .device) w′)
     unfolding moves asks
-    moves-as = ap₂ (λ (y : Setup) (xs : List ℕ). requestMoves n d y xs w) (sym (asks .asked)) (sym (spells t at a s data-at next end i e)) ∙ sym did
+    moves-as b e =
+        ap₂ (λ (y : Setup) (xs : List ℕ). requestMoves n d y xs w) (sym (asks .asked)) (sym (spells t at a s data-at next i))
+        ∙ sym did ∙ ap (λ (x : Bool). cond x falls (goes (g .device) w′)) e
 
-    pub request-falls : r ≡ step.Falls → (k : ℕ) → overOf n (eventsOf (drop at t)) d w k ≡ fell (suc k)
-    request-falls is = fallen (request (asks .bytes)) (asks .rest) (asks .events) (moves-as ∙ ap (λ (x : Step). movedAs x w′) is)
-
-    pub request-further : 1 ≤ n → wellFormed n d ≡ true → (d′ : Device) → r ≡ step.Goes d′ → Further n t at d w d′ next w′
-    request-further some f d′ is = further some f (request (asks .bytes)) (asks .rest) next (asks .events) (asks .onward) d′ w′ (moves-as ∙ ap (λ (x : Step). movedAs x w′) is)
+    pub request-advanced : 1 ≤ n → wellFormed n d ≡ true → Advanced n t at d w (record { falls = g .falls; device = g .device; behind = next }) w′
+    request-advanced some f =
+        record {
+          fallen = λ e. fallen (request (asks .bytes)) (asks .rest) (asks .events) (moves-as true e);
+          further = λ e. further some f (request (asks .bytes)) (asks .rest) next (asks .events) (asks .onward) (g .device) w′ (moves-as false e);
+        }
 
 -- a run over the events in turn, after k of them
 module _ (n : ℕ) (t : List ℕ) (at : ℕ) (d : Device) (w : List ℕ) (k : ℕ) (r : Onward) (w′ : List ℕ) (o : Over) (did : Advanced n t at d w r w′) (so : overOf n (eventsOf (drop at t)) d w k ≡ o) where
-  pub run-fell : r ≡ onward.Falls → fell (k + 1) ≡ o
-  run-fell is = let h : Advanced n t at d w onward.Falls w′ = rw is at did in ap fell (add-one k) ∙ sym (h k) ∙ so
+  pub run-fell : r .falls ≡ true → fell (k + 1) ≡ o
+  run-fell is = ap fell (add-one k) ∙ sym (did .fallen is k) ∙ so
 
-  pub run-further : (d′ : Device) (behind : ℕ) → r ≡ onward.Goes d′ behind → Further n t at d w d′ behind w′
-  run-further d′ behind is = rw is at did
-
-  pub run-on : (d′ : Device) (behind : ℕ) → r ≡ onward.Goes d′ behind → overOf n (eventsOf (drop behind t)) d′ w′ (k + 1) ≡ o
-  run-on d′ behind is = rw (add-one k) (sym (run-further d′ behind is .over k) ∙ so)
+  pub run-on : r .falls ≡ false → overOf n (eventsOf (drop (r .behind) t)) (r .device) w′ (k + 1) ≡ o
+  run-on is = rw (add-one k) (sym (did .further is .over k) ∙ so)
 
 -- at the end of the text no event is left
 pub run-over : (n : ℕ) (t : List ℕ) (at : ℕ) (d : Device) (w : List ℕ) (k : ℕ) (o : Over) → length t ≤ at → overOf n (eventsOf (drop at t)) d w k ≡ o → ended d w ≡ o

@@ -1,6 +1,6 @@
 -- How what the checker's inner functions answer is read: a device of the proof, which no public promise names. Assumes nothing.
 use mathlib.Core.Path.{_≡_}
-use mathlib.Core.Bool.{Bool, true, _&&_}
+use mathlib.Core.Bool.{Bool, true, false, cond, _&&_}
 use mathlib.Core.List.{List, [], _∷_}
 use Prim.Native.Nat.{ℕ, zero, suc, _≤_, _<_}
 use lib.Dec.{eqb}
@@ -11,16 +11,13 @@ use Rattle.job.specs.Event.{proper, textOf}
 use Rattle.job.specs.Text.{eventsOf}
 use Rattle.cells.specs.Cells.{Moved, falls, goes, Over, fell, ended, overOf}
 use Rattle.checker.specs.declared.Step.{Step}
-use Rattle.checker.specs.declared.Step.the-variants as step
 use Rattle.checker.specs.declared.Onward.{Onward}
-use Rattle.checker.specs.declared.Onward.the-variants as onward
 use Rattle.checker.specs.declared.Outcome.{Outcome}
 use Rattle.checker.specs.declared.Outcome.the-variants as outcome
 
 -- an event's outcome, with the work area that it left
 abbrev pub movedAs : Step → List ℕ → Moved
-movedAs step.Falls w = falls
-movedAs (step.Goes d) w = goes d w
+movedAs s w = cond (s .falls) falls (goes (s .device) w)
 
 -- from a place on, the text is that of its events
 pub record Ahead (t : List ℕ) (at : ℕ) : Type 0 where
@@ -35,9 +32,10 @@ pub record Further (n : ℕ) (t : List ℕ) (at : ℕ) (d : Device) (w : List �
   pub within : behind ≤ length t
   pub form : wellFormed n d′ ≡ true
 
-abbrev pub Advanced : ℕ → List ℕ → ℕ → Device → List ℕ → Onward → List ℕ → Type 0
-Advanced n t at d w onward.Falls w′ = (k : ℕ) → overOf n (eventsOf (drop at t)) d w k ≡ fell (suc k)
-Advanced n t at d w (onward.Goes d′ behind) w′ = Further n t at d w d′ behind w′
+-- where the event falls, the whole does with it; otherwise it goes on behind the event
+pub record Advanced (n : ℕ) (t : List ℕ) (at : ℕ) (d : Device) (w : List ℕ) (r : Onward) (w′ : List ℕ) : Type 0 where
+  pub fallen : r .falls ≡ true → (k : ℕ) → overOf n (eventsOf (drop at t)) d w k ≡ fell (suc k)
+  pub further : r .falls ≡ false → Further n t at d w (r .device) (r .behind) w′
 
 -- a run's outcome, with the work area that it left
 abbrev pub overAs : Outcome → List ℕ → Over

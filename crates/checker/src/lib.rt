@@ -1,7 +1,7 @@
 // The job checker: it runs a job on every board at once. The work area holds what is known of all of
 // them, a value and a mark for each byte of memory, and the block that waits to be written.
 ghost use mathlib.Core.Path.{_≡_};
-ghost use mathlib.Core.Bool.{true, not, _&&_};
+ghost use mathlib.Core.Bool.{true, false, not, _&&_};
 ghost use lib.Dec.{eqb, leb};
 ghost use mathlib.Core.List.{List};
 ghost use Prim.Native.Nat.{ℕ, _+_, _-_, _*_, _/_, _≤_, _<_};
@@ -276,10 +276,11 @@ fn act(board: Board, action: Action, work: &mut [u8]) -> u8
     }
 }
 
-// What an event comes to: it fails on some board, or all boards go on alike.
-enum Step {
-    Falls,
-    Goes(Device),
+// What an event comes to: it falls, that is, fails on some board; or all boards go on alike, with this device. A struct, since the compiler
+// takes an enum with a device in it apart and puts it together again at each event.
+struct Step {
+    falls: bool,
+    device: Device,
 }
 
 // GETSTATUS: what is pending runs on every board.
@@ -310,9 +311,15 @@ fn report(device: Device, ran: Ran) -> Step
 {
     let told = device.report(ran);
     if told.status != 0 {
-        return Step::Falls;
+        return Step {
+            falls: true,
+            device,
+        };
     }
-    Step::Goes(device.status(ran))
+    Step {
+        falls: false,
+        device: device.status(ran),
+    }
 }
 
 // UPLOAD of memory: only whether the checks allow it can differ, and they do not look at flash or RAM.
@@ -324,10 +331,22 @@ fn upload(board: Board, device: Device, setup: Setup, work: &[u8]) -> Step
     let address = action::block_address(setup.value, count, device.pointer);
     let access = action::examine(board, protected, address, count);
     match access {
-        Access::Denied(_) => Step::Falls,
-        Access::InFlash(_) => Step::Goes(device.enter(Mode::UploadIdle)),
-        Access::InRam(_) => Step::Goes(device.enter(Mode::UploadIdle)),
-        Access::InOptions(_) => Step::Goes(device.enter(Mode::UploadIdle)),
+        Access::Denied(_) => Step {
+            falls: true,
+            device,
+        },
+        Access::InFlash(_) => Step {
+            falls: false,
+            device: device.enter(Mode::UploadIdle),
+        },
+        Access::InRam(_) => Step {
+            falls: false,
+            device: device.enter(Mode::UploadIdle),
+        },
+        Access::InOptions(_) => Step {
+            falls: false,
+            device: device.enter(Mode::UploadIdle),
+        },
     }
 }
 
@@ -363,16 +382,34 @@ fn request(board: Board, device: Device, setup: Setup, field: &[u8], work: &mut 
 {
     let decision = decision::decide(device, setup, command(field));
     match decision {
-        Decision::Silent => Step::Falls,
-        Decision::Stall(_) => Step::Falls,
-        Decision::Accept(next) => Step::Goes(next),
+        Decision::Silent => Step {
+            falls: true,
+            device,
+        },
+        Decision::Stall(_) => Step {
+            falls: true,
+            device,
+        },
+        Decision::Accept(next) => Step {
+            falls: false,
+            device: next,
+        },
         Decision::Take(next) => {
             hex::decode(field, work, block_from(board));
-            Step::Goes(next)
+            Step {
+                falls: false,
+                device: next,
+            }
         }
-        Decision::Commands { next, count: _ } => Step::Goes(next),
+        Decision::Commands { next, count: _ } => Step {
+            falls: false,
+            device: next,
+        },
         Decision::Read => upload(board, device, setup, work),
-        Decision::State => Step::Goes(device),
+        Decision::State => Step {
+            falls: false,
+            device: device,
+        },
         Decision::Status => status(board, device, work),
     }
 }
@@ -496,10 +533,11 @@ fn has_left(mode: Mode) -> bool
     }
 }
 
-// How far the next event of a job brings all boards.
-enum Onward {
-    Falls,
-    Goes { next: Device, behind: usize },
+// How far the next event of a job brings all boards; `behind` is where the line after it begins.
+struct Onward {
+    falls: bool,
+    device: Device,
+    behind: usize,
 }
 
 // The event whose line begins at place `at`, on every board.
@@ -509,21 +547,29 @@ fn advance(board: Board, device: Device, job: &[u8], at: usize, work: &mut [u8])
 {
     let item = job::event_at(job, at);
     match item {
-        Item::End => Onward::Falls,
-        Item::Bad => Onward::Falls,
-        Item::Attach { next } => Onward::Goes {
-            next: device.attach(),
+        Item::End => Onward {
+            falls: true,
+            device,
+            behind: at,
+        },
+        Item::Bad => Onward {
+            falls: true,
+            device,
+            behind: at,
+        },
+        Item::Attach { next } => Onward {
+            falls: false,
+            device: device.attach(),
             behind: next,
         },
         Item::Request { setup, data, next } => {
-            let end = data + setup.data_length() * 2;
+            let end = next - 1;
             let step = request(board, device, setup, &job[data..end], work);
-            match step {
-                Step::Falls => Onward::Falls,
-                Step::Goes(after) => Onward::Goes {
-                    next: after,
-                    behind: next,
-                },
+            let after = step.device;
+            Onward {
+                falls: step.falls,
+                device: after,
+                behind: next,
             }
         }
     }
@@ -546,15 +592,12 @@ fn run(board: Board, job: &[u8], work: &mut [u8]) -> Outcome
     while at < job.len() {
         let onward = advance(board, device, job, at, work);
         events += 1;
-        match onward {
-            Onward::Falls => {
-                return Outcome::Fell(events);
-            }
-            Onward::Goes { next, behind } => {
-                device = next;
-                at = behind;
-            }
+        if onward.falls {
+            return Outcome::Fell(events);
         }
+        let after = onward.device;
+        device = after;
+        at = onward.behind;
     }
     Outcome::Ended(device)
 }

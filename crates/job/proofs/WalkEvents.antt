@@ -68,15 +68,12 @@ data-here t at q es is ok =
     let s : drop (at + 19) t ≡ drop 19 (spelled (take 8 q) (drop 8 q) (textOf es)) = sym (drop-drop 19 at t) ∙ ap (drop 19) (is ∙ j) in
     ap₂ (λ (k : ℕ) (x : List ℕ). bytesOf (take k x)) n s ∙ ap bytesOf (f .body) ∙ bytes-hex (drop 8 q) (bytes-drop 8 q (p .1))
 
--- and they end within the text
-data-ends : (t : List ℕ) (at : ℕ) (q : List ℕ) (es : List Event) → drop at t ≡ textOf (request q ∷ es) → proper (request q ∷ es) ≡ true → at + 19 + dataLength (setupOf q) * 2 ≤ length t
+-- how long a request's line is: LF stands behind its data
+line-ends : (q : List ℕ) → fits (request q) ≡ true → length (lineOf (request q)) ≡ 19 + dataLength (setupOf q) * 2 + 1
 unfolding fits
-data-ends t at q es is ok =
-    let p = proper-parts (request q) es ok in
-    let h : 8 ≤ length q = fits-long q (p .0) in
-    let d = fits-data q (p .0) in
-    let l = line-length-of q h in
-    let w = within t at (request q) es is ok in
+line-ends q f =
+    let d = fits-data q f in
+    let l = line-length-of q (fits-long q f) in
     omega arith
 
 -- where the text is at its end
@@ -151,7 +148,7 @@ pub record Requested (t : List ℕ) (at : ℕ) (es : List Event) (s : Setup) (da
   pub events : es ≡ request bytes ∷ rest
   pub asked : s ≡ setupOf bytes
   pub data-bytes : bytesOf (take (dataLength s * 2) (drop data-at t)) ≡ drop 8 bytes
-  pub data-within : data-at + dataLength s * 2 ≤ length t
+  pub ends : next ≡ data-at + dataLength s * 2 + 1
   pub onward : Beyond t at rest next
 
 pub request-tells : (t : List ℕ) (at : ℕ) (s : Setup) (data-at next : ℕ) (es : List Event) → drop at t ≡ textOf es → proper es ≡ true → itemOf t at ≡ item.Request s data-at next → Requested t at es s data-at next
@@ -169,6 +166,6 @@ request-tells t at s d next (request q ∷ es) is ok i =
       events = refl;
       asked = a;
       data-bytes = ap₂ (λ (k : ℕ) (j : ℕ). bytesOf (take (k * 2) (drop j t))) (ap dataLength a) (sym m) ∙ data-here t at q es is ok;
-      data-within = let k = data-ends t at q es is ok in let j : dataLength s ≡ dataLength (setupOf q) = ap dataLength a in let h : d + dataLength s * 2 ≤ length t = omega arith in h;
+      ends = let k = line-ends q (proper-parts (request q) es ok .0) in let j : dataLength s ≡ dataLength (setupOf q) = ap dataLength a in let h : next ≡ d + dataLength s * 2 + 1 = omega arith in h;
       onward = beyond-here t at (request q) es next is ok n;
     }

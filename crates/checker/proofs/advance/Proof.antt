@@ -1,9 +1,7 @@
 -- `checker::advance` meets its contract. Assumes nothing.
-use mathlib.Core.Path.{ap, _∙_, sym}
-use Prim.Native.Nat.{ℕ, _+_, _*_}
+use mathlib.Core.Path.{_∙_, sym}
 use native.Mathlib.Omega.{arith}
-use Rattle.request.proofs.Lengths.{data-at-most}
-use Rattle.checker.proofs.Advancing.{ahead-formed, not-at-end, never-bad, attach-further, data-within, request-falls, request-further}
+use Rattle.checker.proofs.Advancing.{ahead-formed, not-at-end, never-bad, attach-advanced, data-within, data-digits, request-advanced}
 use borrow.Author.Needs.{needs}
 use Rattle.checker.proofs.advance.Statement.{statement}
 use Rattle.checker.proofs.advance.Tie as tie
@@ -26,42 +24,40 @@ attach-requires c κs = search needs
 enum-known-item-2 : tie.Need-enum-known-item-2
 enum-known-item-2 c = search needs
 
-data-length-requires : tie.Need-data-length-requires
-data-length-requires c κs = search needs
-
-mul-end : tie.Need-mul-end
-mul-end c = omega (arith, c .data-length .ensures, data-at-most (c .before .before .item2 .given .0 .0))
-
-add-end : tie.Need-add-end
-add-end c =
-    let t = c .before .before in
+sub-end : tie.Need-sub-end
+sub-end c =
+    let t = c .before in
     let i = t .before .before in
-    let p = i .before .before .before .pre in
-    let h = data-within _ _ (p .3) _ _ _ _ (sym (i .event-at .ensures) ∙ t .item2 .given .1) (ap (λ (x : ℕ). t .item2 .given .0 .1 .0 + x * 2) (c .data-length .ensures)) in
-    omega (arith, h)
+    let h = data-within _ _ (i .before .before .before .pre .3) _ _ _ (sym (i .event-at .ensures) ∙ t .item2 .given .1) in
+    h .0
 
 sub-request : tie.Need-sub-request
-sub-request c = search needs
+sub-request c =
+    let t = c .before in
+    let i = t .before .before in
+    let h = data-within _ _ (i .before .before .before .pre .3) _ _ _ (sym (i .event-at .ensures) ∙ t .item2 .given .1) in
+    h .1
 
 part-request-start : tie.Need-part-request-start
-part-request-start c = search needs
+part-request-start c =
+    let t = c .before in
+    let i = t .before .before in
+    let h = data-within _ _ (i .before .before .before .pre .3) _ _ _ (sym (i .event-at .ensures) ∙ t .item2 .given .1) in
+    omega (arith, h .1, h .2)
 
 part-request-end : tie.Need-part-request-end
 part-request-end c =
-    let t = c .before .before in
+    let t = c .before in
     let i = t .before .before in
-    let p = i .before .before .before .pre in
-    let h = data-within _ _ (p .3) _ _ _ _ (sym (i .event-at .ensures) ∙ t .item2 .given .1) (ap (λ (x : ℕ). t .item2 .given .0 .1 .0 + x * 2) (c .data-length .ensures)) in
-    h
+    let h = data-within _ _ (i .before .before .before .pre .3) _ _ _ (sym (i .event-at .ensures) ∙ t .item2 .given .1) in
+    h .2
 
 request-requires : tie.Need-request-requires
-request-requires c κs = search needs
-
-enum-told-3 : tie.Need-enum-told-3
-enum-told-3 c = search needs
-
-enum-known-step : tie.Need-enum-known-step
-enum-known-step c = search needs
+request-requires c κs =
+    let t = c .before .before .before in
+    let i = t .before .before in
+    let p = i .before .before .before .pre in
+    (p .0, p .2, data-digits _ _ (p .3) _ _ _ (sym (i .event-at .ensures) ∙ t .item2 .given .1))
 
 returns : tie.Need-returns
 returns c =
@@ -80,33 +76,18 @@ returns-3 c =
     let t = c .before .before in
     let i = t .before .before in
     let p = i .before .before .before .pre in
-    rw (c .attach .ensures) (attach-further _ _ _ _ _ (p .3) (p .1) (p .2) _ (sym (i .event-at .ensures) ∙ t .item .given .1))
+    attach-advanced _ _ _ _ _ (p .3) (p .1) (p .2) _ _ (sym (i .event-at .ensures) ∙ t .item .given .1) (c .attach .ensures)
 
 same-length : tie.Need-same-length
 same-length c = search needs
 
 returns-4 : tie.Need-returns-4
 returns-4 c =
-    let r = c .before .before .before .before in
-    let l = r .before .before .before in
-    let t = l .before .before in
+    let r = c .before .before .before in
+    let t = r .before .before .before .before in
     let i = t .before .before in
     let p = i .before .before .before .pre in
-    let e = ap (λ (x : ℕ). t .item2 .given .0 .1 .0 + x * 2) (l .data-length .ensures) in
-    request-falls _ _ _ _ _ (p .3) _ _ _ _ (sym (i .event-at .ensures) ∙ t .item2 .given .1) e _ _ (r .request .ensures) (c .enum-told3 .given .1)
-
-same-length-2 : tie.Need-same-length-2
-same-length-2 c = search needs
-
-returns-5 : tie.Need-returns-5
-returns-5 c =
-    let r = c .before .before .before .before .before in
-    let l = r .before .before .before in
-    let t = l .before .before in
-    let i = t .before .before in
-    let p = i .before .before .before .pre in
-    let e = ap (λ (x : ℕ). t .item2 .given .0 .1 .0 + x * 2) (l .data-length .ensures) in
-    request-further _ _ _ _ _ (p .3) _ _ _ _ (sym (i .event-at .ensures) ∙ t .item2 .given .1) e _ _ (r .request .ensures) (p .1) (p .2) _ (c .before .step .given .1)
+    request-advanced _ _ _ _ _ (p .3) _ _ _ (sym (i .event-at .ensures) ∙ t .item2 .given .1) _ _ (r .request .ensures) (p .1) (p .2)
 
 pub advance-spec : {M : Type 1} → statement M
 advance-spec =
@@ -118,19 +99,13 @@ advance-spec =
     enum-known-item
     attach-requires
     enum-known-item-2
-    data-length-requires
-    mul-end
-    add-end
+    sub-end
     sub-request
     part-request-start
     part-request-end
     request-requires
-    enum-told-3
-    enum-known-step
     returns
     returns-2
     returns-3
     same-length
-    returns-4
-    same-length-2
-    returns-5)
+    returns-4)

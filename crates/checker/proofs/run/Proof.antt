@@ -12,7 +12,7 @@ use Rattle.job.specs.Text.{eventsOf}
 use Rattle.verdict.specs.Checked.{workBytes}
 use Rattle.cells.specs.Cells.{overOf}
 use Rattle.checker.specs.Walk.{Ahead}
-use Rattle.checker.proofs.Advancing.{run-fell, run-further, run-on, run-over}
+use Rattle.checker.proofs.Advancing.{run-fell, run-on, run-over}
 use borrow.Author.Needs.{needs}
 use Rattle.checker.proofs.run.Statement.{statement}
 use Rattle.checker.proofs.run.Tie as tie
@@ -44,33 +44,25 @@ add-events c =
     let l = c .before .before .before .before in
     omega (arith, l .loop-test .taken, l .before .loop .inv .5, l .before .loop .inv .4)
 
-enum-told : tie.Need-enum-told Inv-loop μ-loop
-enum-told c = search needs
-
 same-length : tie.Need-same-length Inv-loop μ-loop
 same-length c = search needs
 
 returns : tie.Need-returns Inv-loop μ-loop
 returns c =
-    let a = c .before .before .before .before in
-    run-fell _ _ _ _ _ _ _ _ _ (a .advance .ensures) (a .before .before .before .loop .inv .0) (c .enum-told .given .1)
-
-enum-known-onward : tie.Need-enum-known-onward Inv-loop μ-loop
-enum-known-onward c = search needs
+    let a = c .before .before .before in
+    run-fell _ _ _ _ _ _ _ _ _ (a .advance .ensures) (a .before .before .before .loop .inv .0) (c .if1 .taken)
 
 loop-less : tie.Need-loop-less Inv-loop μ-loop
 loop-less c =
-    let a = c .before .before .before .before .before in
-    let l = a .before .before .before .loop in
-    let f = run-further _ _ _ _ _ _ _ _ _ (a .advance .ensures) (l .inv .0) _ _ (c .before .onward .given .1) in
+    let f = c .before .before .before .before .advance .ensures .further (c .before .if1 .left) in
     omega (arith, f .more, f .within)
 
 loop-again : tie.Need-loop-again Inv-loop μ-loop
 loop-again c =
-    let a = c .before .before .before .before .before in
+    let a = c .before .before .before .before in
     let l = a .before .before .before .loop in
-    let f = run-further _ _ _ _ _ _ _ _ _ (a .advance .ensures) (l .inv .0) _ _ (c .before .onward .given .1) in (
-      run-on _ _ _ _ _ _ _ _ _ (a .advance .ensures) (l .inv .0) _ _ (c .before .onward .given .1),
+    let f = a .advance .ensures .further (c .before .if1 .left) in (
+      run-on _ _ _ _ _ _ _ _ _ (a .advance .ensures) (l .inv .0) (c .before .if1 .left),
       omega (arith, a .advance .kept, l .inv .1),
       f .form,
       f .ahead,
@@ -93,10 +85,8 @@ run-spec =
     loop-holds
     advance-requires
     add-events
-    enum-told
     same-length
     returns
-    enum-known-onward
     loop-less
     loop-again
     same-length-2
