@@ -1,5 +1,5 @@
 -- Bytes compared all at once: a turn of each loop, its end, and what it says of each byte. Assumes nothing.
-use mathlib.Core.Path.{_≡_, refl, ap, _∙_, sym}
+use mathlib.Core.Path.{_≡_, refl}
 use mathlib.Core.Bool.{Bool, true, false, _&&_}
 use mathlib.Core.List.{List, [], _∷_}
 use Prim.Native.Nat.{ℕ, zero, suc, _+_, _-_, _≤_, _<_}
@@ -7,10 +7,11 @@ use native.Mathlib.Omega.{arith}
 use native.Mathlib.Nat.{not-suc-le-zero, le-of-suc-le-suc}
 use native.Mathlib.Numerals.{add-one}
 use lib.Dec.{eqb}
-use lib.ListN.{length, drop, getD}
+use lib.ListN.{length, drop, getD, drop-of-length-le}
 use lib.Seq.{drop-cons}
 use borrow.Author.Tests.{eqb-true}
 use Rattle.laws.proofs.Split.{and-true, and-right-true}
+use Rattle.job.specs.Event.{same}
 use Rattle.checker.specs.Walk.{allAre}
 
 and-assoc : (a b c : Bool) → (a && b) && c ≡ a && (b && c)
@@ -38,3 +39,17 @@ are-at v zero ms e r j h = absurd (not-suc-le-zero h)
 are-at v (suc n) [] e r j h = absurd (not-suc-le-zero r)
 are-at v (suc n) (m ∷ ms) e r zero h = eqb-true m v (and-true (eqb m v) (allAre v n ms) e .0)
 are-at v (suc n) (m ∷ ms) e r (suc j) h = are-at v n ms (and-true (eqb m v) (allAre v n ms) e .1) (le-of-suc-le-suc r) j (le-of-suc-le-suc h)
+
+-- two lists, compared byte by byte
+module _ (xs ys : List ℕ) (i : ℕ) (alike : Bool) (l : length xs ≡ length ys) where
+  pub same-turn : i < length ys → (alike && eqb (getD xs i 0) (getD ys i 0)) && same (drop (i + 1) xs) (drop (i + 1) ys) ≡ alike && same (drop i xs) (drop i ys)
+  unfolding same
+  same-turn h =
+      let hx : i < length xs = omega arith in
+      rw (drop-cons xs i 0 hx, drop-cons ys i 0 h, add-one i) (and-assoc alike (eqb (getD xs i 0) (getD ys i 0)) (same (drop (suc i) xs) (drop (suc i) ys)))
+
+  pub same-end : length ys ≤ i → alike && same (drop i xs) (drop i ys) ≡ alike
+  unfolding same
+  same-end h =
+      let hx : length xs ≤ i = omega arith in
+      rw (drop-of-length-le xs hx, drop-of-length-le ys h) (and-right-true alike)

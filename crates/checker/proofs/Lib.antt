@@ -5,3 +5,4 @@ pub mod Advancing
 pub mod Judging
 pub mod Alike
 pub mod Opened
+pub mod Right

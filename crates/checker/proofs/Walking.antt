@@ -1,15 +1,14 @@
 -- The walk over a text, event by event, and the loops at its end. Assumes nothing.
-use mathlib.Core.Path.{_≡_, refl, ap, _∙_, sym}
+use mathlib.Core.Path.{_≡_, refl, _∙_, sym}
 use mathlib.Core.Bool.{Bool, true, false, cond, not, _&&_}
-use mathlib.Core.List.{List, [], _∷_, _++_}
-use Prim.Native.Nat.{ℕ, zero, suc, _+_, _-_, _*_, _≤_, _<_}
+use mathlib.Core.List.{List}
+use Prim.Native.Nat.{ℕ, suc, _+_, _-_, _≤_, _<_}
 use native.Mathlib.Omega.{arith}
 use native.Mathlib.Numerals.{add-one}
 use lib.Dec.{eqb, ltb}
-use lib.ListN.{length, take, drop, getD, drop-of-length-le}
-use lib.Seq.{drop-cons}
+use lib.ListN.{length, take, drop, getD}
 use borrow.Author.Tests.{ne-eqb, eq-eqb, lt-ltb, le-ltb}
-use Rattle.laws.specs.Bytes.{put, filled}
+use Rattle.laws.specs.Bytes.{put}
 use Rattle.board.specs.Layout.{flashFirst, flashBytes, memoryBytes, optionsFrom, optionBytes}
 use Rattle.device.specs.declared.Device.{Device}
 use Rattle.job.specs.Event.{same}
@@ -34,26 +33,6 @@ unfolding lowestFrom
 lowest-end test i e h =
     let k : e - i ≡ 0 = omega arith in
     rw k
-
--- two lists, compared byte by byte
-module _ (xs ys : List ℕ) (i : ℕ) (l : length xs ≡ length ys) (h : i < length ys) where
-  same-turn : same (drop i xs) (drop i ys) ≡ (eqb (getD xs i 0) (getD ys i 0) && same (drop (i + 1) xs) (drop (i + 1) ys))
-  unfolding same
-  same-turn =
-      let hx : i < length xs = omega arith in
-      rw (drop-cons xs i 0 hx, drop-cons ys i 0 h, add-one i)
-
-  pub same-on : getD xs i 0 ≡ getD ys i 0 → same (drop (i + 1) xs) (drop (i + 1) ys) ≡ same (drop i xs) (drop i ys)
-  same-on e = sym (same-turn ∙ rw (eq-eqb (getD xs i 0) (getD ys i 0) e))
-
-  pub same-not : (getD xs i 0 ≡ getD ys i 0 → ⊥) → false ≡ same (drop i xs) (drop i ys)
-  same-not e = sym (same-turn ∙ rw (ne-eqb (getD xs i 0) (getD ys i 0) e))
-
-pub same-end : (xs ys : List ℕ) (i : ℕ) → length xs ≡ length ys → length ys ≤ i → same (drop i xs) (drop i ys) ≡ true
-unfolding same
-same-end xs ys i l h =
-    let hx : length xs ≤ i = omega arith in
-    rw (drop-of-length-le xs hx, drop-of-length-le ys h)
 
 -- the start of the work area: marks cleared, the card laid and marked
 pub begun-is : (n bytes options : ℕ) (card w w₁ w₂ w₃ : List ℕ) → bytes ≡ memoryBytes n → options ≡ optionsFrom n → length card ≡ optionBytes → w₁ ≡ marked n 0 (bytes - 0) 0 w → w₂ ≡ put options card w₁ → w₃ ≡ marked n options (options + optionBytes - options) 1 w₂ → w₃ ≡ begun n card w

@@ -164,6 +164,20 @@ fn all_are(bytes: &[u8], from: usize, to: usize, byte: u8) -> bool
     alike
 }
 
+// Are the bytes the same, one by one? It looks at them all too.
+fn same_bytes(these: &[u8], those: &[u8]) -> bool
+    requires { ⌜ length (now these) ≡ length (now those) ⌝ }
+    ensures { λ r. ⌜ r ≡ same (now (these .entry)) (now (those .entry)) ⌝ }
+{
+    let mut alike = true;
+    let mut i = 0;
+    while i < those.len() {
+        alike = alike & (these[i] == those[i]);
+        i += 1;
+    }
+    alike
+}
+
 // Do the bytes up to place `end` lie in flash, and is no page write-protected?
 fn is_open(board: Board, word: u32, end: usize) -> bool
     ensures { λ r. ⌜ r ≡ leb end (flashBytes (board .pages)) && not (anyProtected word (board .pages) 0) ⌝ }
@@ -450,8 +464,28 @@ fn differs(mark: u8, value: u8, want: u8) -> bool
     value != want
 }
 
+// Do long comparisons show that no offset is suspect? Where they do not, only a search can tell.
+fn is_right(board: Board, image: &[u8], work: &[u8]) -> bool
+    requires { ⌜ (length (now work) ≡ workBytes (board .pages)) × (length (now image) ≤ flashBytes (board .pages)) ⌝ }
+    ensures { λ r. ⌜ (r ≡ true → flashBytes (board .pages) ≡ lowestFrom (suspect (board .pages) (now (image .entry)) (now (work .entry))) (flashBytes (board .pages)) 0) ⌝ }
+{
+    let marks = board.memory_bytes();
+    let size = board.flash_bytes();
+    let end = (image.len() + (Board::PAGE - 1)) / Board::PAGE * Board::PAGE;
+    if !same_bytes(&work[0..image.len()], image) {
+        return false;
+    }
+    if !all_are(work, image.len(), end, 0xFF) {
+        return false;
+    }
+    if !all_are(work, marks, marks + end, 1) {
+        return false;
+    }
+    all_are(work, marks + end, marks + size, 0)
+}
+
 // The lowest suspect offset, or the size of the flash.
-fn first_suspect(board: Board, image: &[u8], work: &[u8]) -> usize
+fn search(board: Board, image: &[u8], work: &[u8]) -> usize
     requires { ⌜ (length (now work) ≡ workBytes (board .pages)) × (length (now image) ≤ flashBytes (board .pages)) ⌝ }
     ensures { λ r. ⌜ r ≡ lowestFrom (suspect (board .pages) (now (image .entry)) (now (work .entry))) (flashBytes (board .pages)) 0 ⌝ }
 {
@@ -466,19 +500,15 @@ fn first_suspect(board: Board, image: &[u8], work: &[u8]) -> usize
     f
 }
 
-// Are the options those of the card?
-fn same_options(options: &[u8], card: &[u8]) -> bool
-    requires { ⌜ length (now options) ≡ length (now card) ⌝ }
-    ensures { λ r. ⌜ r ≡ same (now (options .entry)) (now (card .entry)) ⌝ }
+// The same; it searches only where something can be suspect.
+fn first_suspect(board: Board, image: &[u8], work: &[u8]) -> usize
+    requires { ⌜ (length (now work) ≡ workBytes (board .pages)) × (length (now image) ≤ flashBytes (board .pages)) ⌝ }
+    ensures { λ r. ⌜ r ≡ lowestFrom (suspect (board .pages) (now (image .entry)) (now (work .entry))) (flashBytes (board .pages)) 0 ⌝ }
 {
-    let mut i = 0;
-    while i < card.len() {
-        if options[i] != card[i] {
-            return false;
-        }
-        i += 1;
+    if is_right(board, image, work) {
+        return board.flash_bytes();
     }
-    true
+    search(board, image, work)
 }
 
 // The end conditions, then the flash.
@@ -489,7 +519,7 @@ fn finish(board: Board, device: Device, image: &[u8], card: &[u8], work: &[u8]) 
     let mode = device.mode;
     let from = board.options_from();
     let to = from + Board::OPTION_BYTES;
-    let same = same_options(&work[from..to], card);
+    let same = same_bytes(&work[from..to], card);
     let fault = end_fault(has_left(mode), device.pointer == Board::FLASH, same);
     if fault != 0 {
         return Verdict::End(fault);

@@ -11,17 +11,17 @@ options-from-requires c κs = search needs
 add-to : tie.Need-add-to
 add-to c = search needs
 
-sub-same-options : tie.Need-sub-same-options
-sub-same-options c = search needs
+sub-same-bytes : tie.Need-sub-same-bytes
+sub-same-bytes c = search needs
 
-part-same-options-start : tie.Need-part-same-options-start
-part-same-options-start c = search needs
+part-same-bytes-start : tie.Need-part-same-bytes-start
+part-same-bytes-start c = search needs
 
-part-same-options-end : tie.Need-part-same-options-end
-part-same-options-end c = search needs
+part-same-bytes-end : tie.Need-part-same-bytes-end
+part-same-bytes-end c = search needs
 
-same-options-requires : tie.Need-same-options-requires
-same-options-requires c κs = search needs
+same-bytes-requires : tie.Need-same-bytes-requires
+same-bytes-requires c κs = search needs
 
 has-left-requires : tie.Need-has-left-requires
 has-left-requires c κs = search needs
@@ -34,7 +34,7 @@ returns c =
     let e = c .before in
     let l = e .before .before in
     let o = l .before in
-    let k = options-part _ _ _ _ _ (o .before .before .options-from .ensures) (o .same-options .ensures) in
+    let k = options-part _ _ _ _ _ (o .before .before .options-from .ensures) (o .same-bytes .ensures) in
     end-fails _ _ _ _ _ _ _ _ _ (l .has-left .ensures) refl k (e .end-fault .ensures) (c .if1 .taken)
 
 first-suspect-requires : tie.Need-first-suspect-requires
@@ -49,7 +49,7 @@ returns-2 c =
     let e = i .before in
     let l = e .before .before in
     let o = l .before in
-    let k = options-part _ _ _ _ _ (o .before .before .options-from .ensures) (o .same-options .ensures) in
+    let k = options-part _ _ _ _ _ (o .before .before .options-from .ensures) (o .same-bytes .ensures) in
     end-wrong _ _ _ _ _ _ _ _ _ (l .has-left .ensures) refl k (e .end-fault .ensures) _ _ (i .if1 .left) (c .before .before .first-suspect .ensures) (c .before .flash-bytes .ensures) (c .if2 .taken)
 
 returns-3 : tie.Need-returns-3
@@ -58,7 +58,7 @@ returns-3 c =
     let e = i .before in
     let l = e .before .before in
     let o = l .before in
-    let k = options-part _ _ _ _ _ (o .before .before .options-from .ensures) (o .same-options .ensures) in
+    let k = options-part _ _ _ _ _ (o .before .before .options-from .ensures) (o .same-bytes .ensures) in
     end-right _ _ _ _ _ _ _ _ _ (l .has-left .ensures) refl k (e .end-fault .ensures) _ _ (i .if1 .left) (c .before .before .first-suspect .ensures) (c .before .flash-bytes .ensures) (c .if2 .left)
 
 pub finish-spec : {M : Type 1} → statement M
@@ -67,10 +67,10 @@ finish-spec =
     (tie.spec
     options-from-requires
     add-to
-    sub-same-options
-    part-same-options-start
-    part-same-options-end
-    same-options-requires
+    sub-same-bytes
+    part-same-bytes-start
+    part-same-bytes-end
+    same-bytes-requires
     has-left-requires
     end-fault-requires
     returns

@@ -1,58 +1,24 @@
 -- `checker::first_suspect` meets its contract. Assumes nothing.
-use native.Mathlib.Omega.{arith}
-use Rattle.checker.proofs.Walking.{lowest-found, lowest-on, lowest-end}
-use Rattle.cells.specs.Cells.{suspect, lowestFrom}
-use native.Mathlib.Nat.{sub-zero}
-use Prim.Native.Nat.{_-_}
-use mathlib.Core.Path.{_≡_, sym, _∙_}
+use mathlib.Core.Path.{_∙_}
+use borrow.Author.Needs.{needs}
 use Rattle.checker.proofs.first_suspect.Statement.{statement}
 use Rattle.checker.proofs.first_suspect.Tie as tie
 
-abbrev Inv-loop : tie.InvT-loop
-Inv-loop board image work size f₀ f = lowestFrom (suspect (board .pages) image work) (size - f) f ≡ lowestFrom (suspect (board .pages) image work) size 0
+is-right-requires : tie.Need-is-right-requires
+is-right-requires c κs = search needs
 
-abbrev μ-loop : tie.MeasureT-loop
-μ-loop board image work size f₀ f = size - f
+flash-bytes-requires : tie.Need-flash-bytes-requires
+flash-bytes-requires c κs = search needs
 
-flash-bytes-requires : tie.Need-flash-bytes-requires Inv-loop μ-loop
-flash-bytes-requires c κs = omega arith
+returns : tie.Need-returns
+returns c = c .flash-bytes .ensures ∙ c .before .before .is-right .ensures (c .before .if1 .taken)
 
-loop-holds : tie.Need-loop-holds Inv-loop μ-loop
-loop-holds c = rw sub-zero
+search-requires : tie.Need-search-requires
+search-requires c κs = search needs
 
-is-suspect-requires : tie.Need-is-suspect-requires Inv-loop μ-loop
-is-suspect-requires c κs = omega arith
-
-returns : tie.Need-returns Inv-loop μ-loop
-returns c =
-    let l = c .before .before .before in
-    lowest-found _ _ _ (c .before .before .loop-test .taken) (sym (c .before .is-suspect .ensures) ∙ c .if1 .taken) ∙ l .loop .inv ∙ rw (l .before .flash-bytes .ensures)
-
-add-f : tie.Need-add-f Inv-loop μ-loop
-add-f c = omega arith
-
-loop-less : tie.Need-loop-less Inv-loop μ-loop
-loop-less c = omega arith
-
-loop-again : tie.Need-loop-again Inv-loop μ-loop
-loop-again c =
-    let l = c .before .before .before in
-    lowest-on _ _ _ (c .before .before .loop-test .taken) (sym (c .before .is-suspect .ensures) ∙ c .if1 .left) ∙ l .loop .inv
-
-returns-2 : tie.Need-returns-2 Inv-loop μ-loop
-returns-2 c = lowest-end _ _ _ (c .loop-test .left) ∙ c .before .loop .inv ∙ rw (c .before .before .flash-bytes .ensures)
+returns-2 : tie.Need-returns-2
+returns-2 c = search needs
 
 pub first-suspect-spec : {M : Type 1} → statement M
 first-suspect-spec =
-    tie.close
-    (tie.spec
-    Inv-loop
-    μ-loop
-    flash-bytes-requires
-    loop-holds
-    is-suspect-requires
-    returns
-    add-f
-    loop-less
-    loop-again
-    returns-2)
+    tie.close (tie.spec is-right-requires flash-bytes-requires returns search-requires returns-2)

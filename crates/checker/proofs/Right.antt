@@ -1,0 +1,90 @@
+-- Where the long comparisons all hold, no flash offset is suspect. Assumes nothing.
+use mathlib.Core.Path.{_≡_, ap, _∙_, sym}
+use mathlib.Core.Bool.{Bool, true, false}
+use mathlib.Core.List.{List}
+use Prim.Native.Nat.{ℕ, zero, suc, _+_, _-_, _≤_, _<_}
+use native.Mathlib.Omega.{arith}
+use native.Mathlib.Nat.{add-zero}
+use lib.ListN.{length, take, drop, getD, length-drop}
+use lib.Seq.{getD-take, getD-drop}
+use borrow.Author.Tests.{eq-eqb, ne-eqb}
+use Rattle.laws.proofs.Split.{by-lt}
+use Rattle.board.specs.Layout.{flashBytes, memoryBytes}
+use Rattle.job.specs.Event.{same}
+use Rattle.job.proofs.FirstLine.{same-eq}
+use Rattle.verdict.specs.Verdict.{pagesEnd}
+use Rattle.verdict.specs.Checked.{workBytes}
+use Rattle.cells.specs.Cells.{suspect, lowestFrom}
+use Rattle.checker.specs.Walk.{allAre}
+use Rattle.checker.proofs.Alike.{are-at}
+use Rattle.checker.proofs.Walking.{suspect-image, suspect-rest, suspect-other}
+
+lowest-none : (test : ℕ → Bool) (count i : ℕ) → ((k : ℕ) → i ≤ k → k < i + count → test k ≡ false) → lowestFrom test count i ≡ i + count
+unfolding lowestFrom
+lowest-none test zero i none = sym (add-zero i)
+lowest-none test (suc count) i none =
+    let here : test i ≡ false = none i (omega arith) (omega arith) in
+    let rest : lowestFrom test count (suc i) ≡ suc i + count = lowest-none test count (suc i) (λ k a b. none k (omega arith) (omega arith)) in
+    let e : suc i + count ≡ i + suc count = omega arith in
+    rw here (rest ∙ e)
+
+-- a byte of a part that is all v
+part-at : (v from count : ℕ) (w : List ℕ) → allAre v count (drop from w) ≡ true → from + count ≤ length w → (i : ℕ) → from ≤ i → i < from + count → getD w i 0 ≡ v
+part-at v from count w e room i a b =
+    let r : count ≤ length (drop from w) = rw length-drop (omega arith) in
+    let k : i - from < count = omega arith in
+    let p : from + (i - from) ≡ i = omega arith in
+    ap (λ (j : ℕ). getD w j 0) (sym p) ∙ sym (getD-drop from w (i - from) 0) ∙ are-at v count (drop from w) e r (i - from) k
+
+module _ (n marks size end : ℕ) (image w : List ℕ) (l : length w ≡ workBytes n) (short : length image ≤ flashBytes n) (m : marks ≡ memoryBytes n) (z : size ≡ flashBytes n) (p : end ≡ pagesEnd image) (front : same (take (length image - 0) (drop 0 w)) image ≡ true) (rest : allAre 0xFF (end - length image) (drop (length image) w) ≡ true) (known : allAre 1 (marks + end - marks) (drop marks w) ≡ true) (others : allAre 0 (marks + size - (marks + end)) (drop (marks + end) w) ≡ true) where
+  end-low : length image ≤ end
+  end-low = omega arith
+
+  end-high : end ≤ size
+  end-high = omega arith
+
+  front-at : (f : ℕ) → f < length image → getD w f 0 ≡ getD image f 0
+  front-at f h =
+      let k : f < length image - 0 = omega arith in
+      sym (getD-take (length image - 0) (drop 0 w) f 0 k) ∙ ap (λ (x : List ℕ). getD x f 0) (same-eq (take (length image - 0) (drop 0 w)) image front)
+
+  rest-at : (f : ℕ) → length image ≤ f → f < end → getD w f 0 ≡ 0xFF
+  rest-at f a b =
+      let room : length image + (end - length image) ≤ length w = omega (arith, end-low, end-high) in
+      let k : f < length image + (end - length image) = omega (arith, end-low) in
+      part-at 0xFF (length image) (end - length image) w rest room f a k
+
+  known-at : (f : ℕ) → f < end → getD w (marks + f) 0 ≡ 1
+  known-at f h =
+      let room : marks + (marks + end - marks) ≤ length w = omega (arith, end-high) in
+      let a : marks ≤ marks + f = omega arith in
+      let b : marks + f < marks + (marks + end - marks) = omega arith in
+      part-at 1 marks (marks + end - marks) w known room (marks + f) a b
+
+  other-at : (f : ℕ) → end ≤ f → f < size → getD w (marks + f) 0 ≡ 0
+  other-at f h k =
+      let room : marks + end + (marks + size - (marks + end)) ≤ length w = omega (arith, end-high) in
+      let a : marks + end ≤ marks + f = omega arith in
+      let b : marks + f < marks + end + (marks + size - (marks + end)) = omega (arith, end-high) in
+      part-at 0 (marks + end) (marks + size - (marks + end)) w others room (marks + f) a b
+
+  none-suspect : (f : ℕ) → f < size → suspect n image w f ≡ false
+  none-suspect f h =
+      by-lt f (length image)
+      (λ a.
+      let k : f < end = omega (arith, end-low) in
+      suspect-image n image w f marks m a ∙ rw (eq-eqb (getD w (marks + f) 0) 1 (known-at f k), eq-eqb (getD w f 0) (getD image f 0) (front-at f a)))
+      (λ a.
+      by-lt f end
+      (λ b.
+      let k : f < pagesEnd image = omega arith in
+      suspect-rest n image w f marks m a k ∙ rw (eq-eqb (getD w (marks + f) 0) 1 (known-at f b), eq-eqb (getD w f 0) 0xFF (rest-at f a b)))
+      (λ b.
+      let k : pagesEnd image ≤ f = omega arith in
+      let o = other-at f b h in
+      suspect-other n image w f marks m a k ∙ ne-eqb (getD w (marks + f) 0) 1 (λ q. omega arith)))
+
+  pub right-lowest : flashBytes n ≡ lowestFrom (suspect n image w) (flashBytes n) 0
+  right-lowest =
+      let e : 0 + flashBytes n ≡ flashBytes n = omega arith in
+      sym (lowest-none (suspect n image w) (flashBytes n) 0 (λ k a b. none-suspect k (omega arith)) ∙ e)

@@ -1,0 +1,99 @@
+-- `checker::is_right` meets its contract. Assumes nothing.
+use Rattle.checker.proofs.Right.{right-lowest}
+use borrow.Author.Tests.{not-false}
+use mathlib.Core.Bool.{false≢true}
+use mathlib.Core.Path.{refl, _∙_, sym}
+use borrow.Author.Needs.{needs}
+use Rattle.checker.proofs.is_right.Statement.{statement}
+use Rattle.checker.proofs.is_right.Tie as tie
+
+memory-bytes-requires : tie.Need-memory-bytes-requires
+memory-bytes-requires c κs = search needs
+
+flash-bytes-requires : tie.Need-flash-bytes-requires
+flash-bytes-requires c κs = search needs
+
+sub-end : tie.Need-sub-end
+sub-end c = search needs
+
+add-end : tie.Need-add-end
+add-end c = search needs
+
+mul-end : tie.Need-mul-end
+mul-end c = search needs
+
+sub-same-bytes : tie.Need-sub-same-bytes
+sub-same-bytes c = search needs
+
+part-same-bytes-start : tie.Need-part-same-bytes-start
+part-same-bytes-start c = search needs
+
+part-same-bytes-end : tie.Need-part-same-bytes-end
+part-same-bytes-end c = search needs
+
+same-bytes-requires : tie.Need-same-bytes-requires
+same-bytes-requires c κs = search needs
+
+returns : tie.Need-returns
+returns c = λ e. absurd (false≢true e)
+
+all-are-requires : tie.Need-all-are-requires
+all-are-requires c κs = search needs
+
+returns-2 : tie.Need-returns-2
+returns-2 c = λ e. absurd (false≢true e)
+
+add-all-are : tie.Need-add-all-are
+add-all-are c = search needs
+
+all-are-requires-2 : tie.Need-all-are-requires-2
+all-are-requires-2 c κs = search needs
+
+returns-3 : tie.Need-returns-3
+returns-3 c = λ e. absurd (false≢true e)
+
+add-all-are-2 : tie.Need-add-all-are-2
+add-all-are-2 c = search needs
+
+add-all-are-3 : tie.Need-add-all-are-3
+add-all-are-3 c = search needs
+
+all-are-requires-3 : tie.Need-all-are-requires-3
+all-are-requires-3 c κs = search needs
+
+returns-4 : tie.Need-returns-4
+returns-4 c =
+    let k = c .before in
+    let r = k .before .before in
+    let f = r .before .before in
+    let z = f .before .before .before in
+    let m = z .before in
+    let p = m .before .before .before .pre in
+    let front = sym (f .before .same-bytes .ensures) ∙ not-false _ (f .if1 .left) in
+    let rest = sym (r .before .all-are .ensures) ∙ not-false _ (r .if2 .left) in
+    let known = sym (k .before .all-are2 .ensures) ∙ not-false _ (k .if3 .left) in
+    λ e. right-lowest _ _ _ _ _ _ (p .0) (p .1) (m .memory-bytes .ensures) (z .flash-bytes .ensures) refl front rest known (sym (c .all-are3 .ensures) ∙ e)
+
+pub is-right-spec : {M : Type 1} → statement M
+is-right-spec =
+    tie.close
+    (tie.spec
+    memory-bytes-requires
+    flash-bytes-requires
+    sub-end
+    add-end
+    mul-end
+    sub-same-bytes
+    part-same-bytes-start
+    part-same-bytes-end
+    same-bytes-requires
+    returns
+    all-are-requires
+    returns-2
+    add-all-are
+    all-are-requires-2
+    returns-3
+    add-all-are-2
+    add-all-are-3
+    all-are-requires-3
+    returns-4)
