@@ -103,11 +103,18 @@ module _ (n : ℕ) (t : List ℕ) (at : ℕ) (d : Device) (w : List ℕ) (a : Ah
         ap₂ (λ (y : Setup) (xs : List ℕ). requestMoves n d y xs w) (sym (asks .asked)) (sym (spells t at a s data-at next i))
         ∙ sym did ∙ ap (λ (x : Bool). cond x falls (goes (g .device) w′)) e
 
-    pub request-advanced : 1 ≤ n → wellFormed n d ≡ true → Advanced n t at d w (record { falls = g .falls; device = g .device; behind = next }) w′
-    request-advanced some f =
+    pub request-fallen : (r : Onward) → g .falls ≡ true → r .falls ≡ true → Advanced n t at d w r w′
+    request-fallen r e f =
         record {
-          fallen = λ e. fallen (request (asks .bytes)) (asks .rest) (asks .events) (moves-as true e);
-          further = λ e. further some f (request (asks .bytes)) (asks .rest) next (asks .events) (asks .onward) (g .device) w′ (moves-as false e);
+          fallen = λ z. fallen (request (asks .bytes)) (asks .rest) (asks .events) (moves-as true e);
+          further = λ z. absurd (false≢true (sym z ∙ f));
+        }
+
+    pub request-further : 1 ≤ n → wellFormed n d ≡ true → g .falls ≡ false → Advanced n t at d w (record { falls = false; device = g .device; behind = next }) w′
+    request-further some f e =
+        record {
+          fallen = λ z. absurd (false≢true z);
+          further = λ z. further some f (request (asks .bytes)) (asks .rest) next (asks .events) (asks .onward) (g .device) w′ (moves-as false e);
         }
 
 -- a run over the events in turn, after k of them

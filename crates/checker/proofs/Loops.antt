@@ -14,6 +14,7 @@ use Rattle.board.specs.Layout.{pageBytes, memoryBytes}
 use Rattle.board.specs.Protection.{writeProtected}
 use Rattle.memory.specs.Flash.{kept, each, stored}
 use Rattle.memory.proofs.Flash.{stored-open, stored-kept, stored-end}
+use Rattle.checker.specs.Walk.{allAre}
 use Rattle.cells.specs.Cells.{marked, learnt, blockFrom, blockOf, pageErased, pagesErased}
 
 -- the place behind a mark, which stands o places behind its byte
@@ -99,3 +100,9 @@ store-end n word w₀ w at count block i b h room e =
     let l : length (take count (drop block w₀)) ≡ count = length-take-le count (drop block w₀) r in
     let past : length (take count (drop block w₀)) ≤ i = omega arith in
     sym (stored-end word w (take count (drop block w₀)) (at + i) i past) ∙ e ∙ ap (λ (k : ℕ). stored word at (take count (drop k w₀)) w₀) b
+
+-- a part of the marks, by the place where they begin
+pub marks-are : (n from to known marks : ℕ) (w : List ℕ) (b : Bool) → marks ≡ memoryBytes n → b ≡ allAre known (marks + to - (marks + from)) (drop (marks + from) w) → b ≡ allAre known (to - from) (drop (memoryBytes n + from) w)
+marks-are n from to known marks w b m e =
+    let k : marks + to - (marks + from) ≡ to - from = omega arith in
+    e ∙ rw (k, m)

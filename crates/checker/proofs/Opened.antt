@@ -190,10 +190,10 @@ module _ (n word at count : ℕ) (w : List ℕ) (l : length w ≡ workBytes n) (
       let k : at + count - at ≡ count = omega arith in
       h ∙ rw k (each-free 0xFF word at count (drop at w) free-there)
 
-  pub known-there : (marks : ℕ) (b : Bool) → marks ≡ memoryBytes n → b ≡ allAre 1 (marks + (at + count) - (marks + at)) (drop (marks + at) w) → b ≡ each 1 word at count (drop (memoryBytes n + at) w)
-  known-there marks b m h =
-      let k : marks + (at + count) - (marks + at) ≡ count = omega arith in
-      h ∙ rw (k, m) (each-free 1 word at count (drop (memoryBytes n + at) w) free-there)
+  pub known-there : (b : Bool) → b ≡ allAre 1 (at + count - at) (drop (memoryBytes n + at) w) → b ≡ each 1 word at count (drop (memoryBytes n + at) w)
+  known-there b h =
+      let k : at + count - at ≡ count = omega arith in
+      h ∙ rw k (each-free 1 word at count (drop (memoryBytes n + at) w) free-there)
 
   pub stored-there : (w′ : List ℕ) → count ≤ transferBytes → w′ ≡ put at (blockOf n count w) w → w′ ≡ stored word at (blockOf n count w) w
   stored-there w′ c e =

@@ -36,7 +36,7 @@ part-at v from count w e room i a b =
     let p : from + (i - from) ≡ i = omega arith in
     ap (λ (j : ℕ). getD w j 0) (sym p) ∙ sym (getD-drop from w (i - from) 0) ∙ are-at v count (drop from w) e r (i - from) k
 
-module _ (n marks size end : ℕ) (image w : List ℕ) (l : length w ≡ workBytes n) (short : length image ≤ flashBytes n) (m : marks ≡ memoryBytes n) (z : size ≡ flashBytes n) (p : end ≡ pagesEnd image) (front : same (take (length image - 0) (drop 0 w)) image ≡ true) (rest : allAre 0xFF (end - length image) (drop (length image) w) ≡ true) (known : allAre 1 (marks + end - marks) (drop marks w) ≡ true) (others : allAre 0 (marks + size - (marks + end)) (drop (marks + end) w) ≡ true) where
+module _ (n size end : ℕ) (image w : List ℕ) (l : length w ≡ workBytes n) (short : length image ≤ flashBytes n) (z : size ≡ flashBytes n) (p : end ≡ pagesEnd image) (front : same (take (length image - 0) (drop 0 w)) image ≡ true) (rest : allAre 0xFF (end - length image) (drop (length image) w) ≡ true) (known : allAre 1 (end - 0) (drop (memoryBytes n + 0) w) ≡ true) (others : allAre 0 (size - end) (drop (memoryBytes n + end) w) ≡ true) where
   end-low : length image ≤ end
   end-low = omega arith
 
@@ -54,35 +54,34 @@ module _ (n marks size end : ℕ) (image w : List ℕ) (l : length w ≡ workByt
       let k : f < length image + (end - length image) = omega (arith, end-low) in
       part-at 0xFF (length image) (end - length image) w rest room f a k
 
-  known-at : (f : ℕ) → f < end → getD w (marks + f) 0 ≡ 1
+  known-at : (f : ℕ) → f < end → getD w (memoryBytes n + f) 0 ≡ 1
   known-at f h =
-      let room : marks + (marks + end - marks) ≤ length w = omega (arith, end-high) in
-      let a : marks ≤ marks + f = omega arith in
-      let b : marks + f < marks + (marks + end - marks) = omega arith in
-      part-at 1 marks (marks + end - marks) w known room (marks + f) a b
+      let room : memoryBytes n + 0 + (end - 0) ≤ length w = omega (arith, end-high) in
+      let a : memoryBytes n + 0 ≤ memoryBytes n + f = omega arith in
+      let b : memoryBytes n + f < memoryBytes n + 0 + (end - 0) = omega arith in
+      part-at 1 (memoryBytes n + 0) (end - 0) w known room (memoryBytes n + f) a b
 
-  other-at : (f : ℕ) → end ≤ f → f < size → getD w (marks + f) 0 ≡ 0
+  other-at : (f : ℕ) → end ≤ f → f < size → getD w (memoryBytes n + f) 0 ≡ 0
   other-at f h k =
-      let room : marks + end + (marks + size - (marks + end)) ≤ length w = omega (arith, end-high) in
-      let a : marks + end ≤ marks + f = omega arith in
-      let b : marks + f < marks + end + (marks + size - (marks + end)) = omega (arith, end-high) in
-      part-at 0 (marks + end) (marks + size - (marks + end)) w others room (marks + f) a b
+      let room : memoryBytes n + end + (size - end) ≤ length w = omega (arith, end-high) in
+      let a : memoryBytes n + end ≤ memoryBytes n + f = omega arith in
+      let b : memoryBytes n + f < memoryBytes n + end + (size - end) = omega (arith, end-high) in
+      part-at 0 (memoryBytes n + end) (size - end) w others room (memoryBytes n + f) a b
 
   none-suspect : (f : ℕ) → f < size → suspect n image w f ≡ false
   none-suspect f h =
       by-lt f (length image)
       (λ a.
       let k : f < end = omega (arith, end-low) in
-      suspect-image n image w f marks m a ∙ rw (eq-eqb (getD w (marks + f) 0) 1 (known-at f k), eq-eqb (getD w f 0) (getD image f 0) (front-at f a)))
+      suspect-image n image w f 1 (sym (known-at f k)) a ∙ rw (eq-eqb (getD w f 0) (getD image f 0) (front-at f a)))
       (λ a.
       by-lt f end
       (λ b.
       let k : f < pagesEnd image = omega arith in
-      suspect-rest n image w f marks m a k ∙ rw (eq-eqb (getD w (marks + f) 0) 1 (known-at f b), eq-eqb (getD w f 0) 0xFF (rest-at f a b)))
+      suspect-rest n image w f 1 (sym (known-at f b)) a k ∙ rw (eq-eqb (getD w f 0) 0xFF (rest-at f a b)))
       (λ b.
       let k : pagesEnd image ≤ f = omega arith in
-      let o = other-at f b h in
-      suspect-other n image w f marks m a k ∙ ne-eqb (getD w (marks + f) 0) 1 (λ q. omega arith)))
+      suspect-other n image w f 0 (sym (other-at f b h)) a k))
 
   pub right-lowest : flashBytes n ≡ lowestFrom (suspect n image w) (flashBytes n) 0
   right-lowest =

@@ -42,17 +42,17 @@ begun-is n bytes options card w w₁ w₂ w₃ b o l e₁ e₂ e₃ =
     let m : options + optionBytes - options ≡ length card = omega arith in
     e₃ ∙ rw (e₂, e₁, m, k, o, b)
 
--- the three kinds of place, each with its test
-module _ (n : ℕ) (image w : List ℕ) (f bytes : ℕ) (b : bytes ≡ memoryBytes n) where
-  pub suspect-image : f < length image → suspect n image w f ≡ not (eqb (getD w (bytes + f) 0) 1 && eqb (getD w f 0) (getD image f 0))
+-- the three kinds of place, each with its test, by the mark of the byte there
+module _ (n : ℕ) (image w : List ℕ) (f mark : ℕ) (b : mark ≡ getD w (memoryBytes n + f) 0) where
+  pub suspect-image : f < length image → suspect n image w f ≡ not (eqb mark 1 && eqb (getD w f 0) (getD image f 0))
   unfolding suspect
   suspect-image h = rw (lt-ltb f (length image) h, b)
 
-  pub suspect-rest : length image ≤ f → f < pagesEnd image → suspect n image w f ≡ not (eqb (getD w (bytes + f) 0) 1 && eqb (getD w f 0) 0xFF)
+  pub suspect-rest : length image ≤ f → f < pagesEnd image → suspect n image w f ≡ not (eqb mark 1 && eqb (getD w f 0) 0xFF)
   unfolding suspect
   suspect-rest h k = rw (le-ltb f (length image) h, lt-ltb f (pagesEnd image) k, b)
 
-  pub suspect-other : length image ≤ f → pagesEnd image ≤ f → suspect n image w f ≡ eqb (getD w (bytes + f) 0) 1
+  pub suspect-other : length image ≤ f → pagesEnd image ≤ f → suspect n image w f ≡ eqb mark 1
   unfolding suspect
   suspect-other h k = rw (le-ltb f (length image) h, le-ltb f (pagesEnd image) k, b)
 

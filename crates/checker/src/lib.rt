@@ -56,16 +56,33 @@ fn mark(board: Board, work: &mut [u8], from: usize, to: usize, known: u8)
     buffer::fill(work, marks + from, marks + to, known);
 }
 
+// The mark of the byte at place i.
+fn mark_of(board: Board, work: &[u8], i: usize) -> u8
+    requires { ⌜ (i < memoryBytes (board .pages)) × (length (now work) ≡ workBytes (board .pages)) ⌝ }
+    ensures { λ r. ⌜ r ≡ getD (now (work .entry)) (memoryBytes (board .pages) + i) 0 ⌝ }
+{
+    let marks = board.memory_bytes();
+    work[marks + i]
+}
+
+// Is each mark from place `from` up to place `to` this one?
+fn are_marked(board: Board, work: &[u8], from: usize, to: usize, known: u8) -> bool
+    requires { ⌜ (from ≤ to) × (to ≤ memoryBytes (board .pages)) × (length (now work) ≡ workBytes (board .pages)) ⌝ }
+    ensures { λ r. ⌜ r ≡ allAre known (to - from) (drop (memoryBytes (board .pages) + from) (now (work .entry))) ⌝ }
+{
+    let marks = board.memory_bytes();
+    all_are(work, marks + from, marks + to, known)
+}
+
 // Is each of `count` bytes from place `at` on known, but for those in write-protected pages?
 fn is_known(board: Board, work: &[u8], word: u32, at: usize, count: usize) -> bool
     requires { ⌜ (at + count ≤ memoryBytes (board .pages)) × (length (now work) ≡ workBytes (board .pages)) ⌝ }
     ensures { λ r. ⌜ r ≡ each 1 word at count (drop (memoryBytes (board .pages) + at) (now (work .entry))) ⌝ }
 {
-    let marks = board.memory_bytes();
     let end = at + count;
     let mut i = at;
     while i < end {
-        if work[marks + i] != 1 && !board::write_protected(word, i / Board::PAGE) {
+        if mark_of(board, work, i) != 1 && !board::write_protected(word, i / Board::PAGE) {
             return false;
         }
         i += 1;
@@ -212,11 +229,10 @@ fn write(board: Board, work: &mut [u8], word: u32, at: usize, count: usize) -> u
     if !is_open(board, word, end) {
         return write_sparing(board, work, word, at, count);
     }
-    let marks = board.memory_bytes();
     if !all_are(work, at, end, 0xFF) {
         return Device::WRITE;
     }
-    if !all_are(work, marks + at, marks + end, 1) {
+    if !are_marked(board, work, at, end, 1) {
         return Device::WRITE;
     }
     copy(board, work, at, count);
@@ -444,7 +460,7 @@ fn is_suspect(board: Board, image: &[u8], work: &[u8], f: usize) -> bool
     requires { ⌜ (length (now work) ≡ workBytes (board .pages)) × (f < flashBytes (board .pages)) × (length (now image) ≤ flashBytes (board .pages)) ⌝ }
     ensures { λ r. ⌜ r ≡ suspect (board .pages) (now (image .entry)) (now (work .entry)) f ⌝ }
 {
-    let mark = work[board.memory_bytes() + f];
+    let mark = mark_of(board, work, f);
     if f < image.len() {
         return differs(mark, work[f], image[f]);
     }
@@ -469,7 +485,6 @@ fn is_right(board: Board, image: &[u8], work: &[u8]) -> bool
     requires { ⌜ (length (now work) ≡ workBytes (board .pages)) × (length (now image) ≤ flashBytes (board .pages)) ⌝ }
     ensures { λ r. ⌜ (r ≡ true → flashBytes (board .pages) ≡ lowestFrom (suspect (board .pages) (now (image .entry)) (now (work .entry))) (flashBytes (board .pages)) 0) ⌝ }
 {
-    let marks = board.memory_bytes();
     let size = board.flash_bytes();
     let end = (image.len() + (Board::PAGE - 1)) / Board::PAGE * Board::PAGE;
     if !same_bytes(&work[0..image.len()], image) {
@@ -478,10 +493,10 @@ fn is_right(board: Board, image: &[u8], work: &[u8]) -> bool
     if !all_are(work, image.len(), end, 0xFF) {
         return false;
     }
-    if !all_are(work, marks, marks + end, 1) {
+    if !are_marked(board, work, 0, end, 1) {
         return false;
     }
-    all_are(work, marks + end, marks + size, 0)
+    are_marked(board, work, end, size, 0)
 }
 
 // The lowest suspect offset, or the size of the flash.
@@ -595,9 +610,16 @@ fn advance(board: Board, device: Device, job: &[u8], at: usize, work: &mut [u8])
         Item::Request { setup, data, next } => {
             let end = next - 1;
             let step = request(board, device, setup, &job[data..end], work);
+            if step.falls {
+                return Onward {
+                    falls: true,
+                    device,
+                    behind: at,
+                };
+            }
             let after = step.device;
             Onward {
-                falls: step.falls,
+                falls: false,
                 device: after,
                 behind: next,
             }

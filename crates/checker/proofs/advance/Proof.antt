@@ -1,7 +1,7 @@
 -- `checker::advance` meets its contract. Assumes nothing.
-use mathlib.Core.Path.{_∙_, sym}
+use mathlib.Core.Path.{refl, _∙_, sym}
 use native.Mathlib.Omega.{arith}
-use Rattle.checker.proofs.Advancing.{ahead-formed, not-at-end, never-bad, attach-advanced, data-within, data-digits, request-advanced}
+use Rattle.checker.proofs.Advancing.{ahead-formed, not-at-end, never-bad, attach-advanced, data-within, data-digits, request-fallen, request-further}
 use borrow.Author.Needs.{needs}
 use Rattle.checker.proofs.advance.Statement.{statement}
 use Rattle.checker.proofs.advance.Tie as tie
@@ -59,20 +59,20 @@ request-requires c κs =
     let p = i .before .before .before .pre in
     (p .0, p .2, data-digits _ _ (p .3) _ _ _ (sym (i .event-at .ensures) ∙ t .item2 .given .1))
 
-returns : tie.Need-returns
-returns c =
-    let i = c .before .before in
-    let p = i .before .before .before .pre in
-    absurd (not-at-end _ _ (p .3) (p .4) (sym (i .event-at .ensures) ∙ c .enum-told .given .1))
-
 returns-2 : tie.Need-returns-2
 returns-2 c =
     let i = c .before .before in
     let p = i .before .before .before .pre in
-    absurd (never-bad _ _ (p .3) (sym (i .event-at .ensures) ∙ c .enum-told2 .given .1))
+    absurd (not-at-end _ _ (p .3) (p .4) (sym (i .event-at .ensures) ∙ c .enum-told .given .1))
 
 returns-3 : tie.Need-returns-3
 returns-3 c =
+    let i = c .before .before in
+    let p = i .before .before .before .pre in
+    absurd (never-bad _ _ (p .3) (sym (i .event-at .ensures) ∙ c .enum-told2 .given .1))
+
+returns-4 : tie.Need-returns-4
+returns-4 c =
     let t = c .before .before in
     let i = t .before .before in
     let p = i .before .before .before .pre in
@@ -81,13 +81,23 @@ returns-3 c =
 same-length : tie.Need-same-length
 same-length c = search needs
 
-returns-4 : tie.Need-returns-4
-returns-4 c =
+returns : tie.Need-returns
+returns c =
     let r = c .before .before .before in
     let t = r .before .before .before .before in
     let i = t .before .before in
+    request-fallen _ _ _ _ _ (i .before .before .before .pre .3) _ _ _ (sym (i .event-at .ensures) ∙ t .item2 .given .1) _ _ (r .request .ensures) _ (c .if1 .taken) refl
+
+same-length-2 : tie.Need-same-length-2
+same-length-2 c = search needs
+
+returns-5 : tie.Need-returns-5
+returns-5 c =
+    let r = c .before .before .before .before in
+    let t = r .before .before .before .before in
+    let i = t .before .before in
     let p = i .before .before .before .pre in
-    request-advanced _ _ _ _ _ (p .3) _ _ _ (sym (i .event-at .ensures) ∙ t .item2 .given .1) _ _ (r .request .ensures) (p .1) (p .2)
+    request-further _ _ _ _ _ (p .3) _ _ _ (sym (i .event-at .ensures) ∙ t .item2 .given .1) _ _ (r .request .ensures) (p .1) (p .2) (c .before .if1 .left)
 
 pub advance-spec : {M : Type 1} → statement M
 advance-spec =
@@ -104,8 +114,10 @@ advance-spec =
     part-request-start
     part-request-end
     request-requires
+    same-length
     returns
     returns-2
     returns-3
-    same-length
-    returns-4)
+    returns-4
+    same-length-2
+    returns-5)

@@ -7,9 +7,6 @@ use borrow.Author.Needs.{needs}
 use Rattle.checker.proofs.is_right.Statement.{statement}
 use Rattle.checker.proofs.is_right.Tie as tie
 
-memory-bytes-requires : tie.Need-memory-bytes-requires
-memory-bytes-requires c κs = search needs
-
 flash-bytes-requires : tie.Need-flash-bytes-requires
 flash-bytes-requires c κs = search needs
 
@@ -43,23 +40,14 @@ all-are-requires c κs = search needs
 returns-2 : tie.Need-returns-2
 returns-2 c = λ e. absurd (false≢true e)
 
-add-all-are : tie.Need-add-all-are
-add-all-are c = search needs
-
-all-are-requires-2 : tie.Need-all-are-requires-2
-all-are-requires-2 c κs = search needs
+are-marked-requires : tie.Need-are-marked-requires
+are-marked-requires c κs = search needs
 
 returns-3 : tie.Need-returns-3
 returns-3 c = λ e. absurd (false≢true e)
 
-add-all-are-2 : tie.Need-add-all-are-2
-add-all-are-2 c = search needs
-
-add-all-are-3 : tie.Need-add-all-are-3
-add-all-are-3 c = search needs
-
-all-are-requires-3 : tie.Need-all-are-requires-3
-all-are-requires-3 c κs = search needs
+are-marked-requires-2 : tie.Need-are-marked-requires-2
+are-marked-requires-2 c κs = search needs
 
 returns-4 : tie.Need-returns-4
 returns-4 c =
@@ -67,18 +55,16 @@ returns-4 c =
     let r = k .before .before in
     let f = r .before .before in
     let z = f .before .before .before in
-    let m = z .before in
-    let p = m .before .before .before .pre in
+    let p = z .before .before .before .pre in
     let front = sym (f .before .same-bytes .ensures) ∙ not-false _ (f .if1 .left) in
     let rest = sym (r .before .all-are .ensures) ∙ not-false _ (r .if2 .left) in
-    let known = sym (k .before .all-are2 .ensures) ∙ not-false _ (k .if3 .left) in
-    λ e. right-lowest _ _ _ _ _ _ (p .0) (p .1) (m .memory-bytes .ensures) (z .flash-bytes .ensures) refl front rest known (sym (c .all-are3 .ensures) ∙ e)
+    let known = sym (k .before .are-marked .ensures) ∙ not-false _ (k .if3 .left) in
+    λ e. right-lowest _ _ _ _ _ (p .0) (p .1) (z .flash-bytes .ensures) refl front rest known (sym (c .are-marked2 .ensures) ∙ e)
 
 pub is-right-spec : {M : Type 1} → statement M
 is-right-spec =
     tie.close
     (tie.spec
-    memory-bytes-requires
     flash-bytes-requires
     sub-end
     add-end
@@ -90,10 +76,7 @@ is-right-spec =
     returns
     all-are-requires
     returns-2
-    add-all-are
-    all-are-requires-2
+    are-marked-requires
     returns-3
-    add-all-are-2
-    add-all-are-3
-    all-are-requires-3
+    are-marked-requires-2
     returns-4)

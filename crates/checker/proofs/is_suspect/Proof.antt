@@ -1,18 +1,12 @@
 -- `checker::is_suspect` meets its contract. Assumes nothing.
-use Rattle.checker.proofs.Walking.{suspect-image, suspect-rest, suspect-other}
 use mathlib.Core.Path.{_∙_, sym}
+use Rattle.checker.proofs.Walking.{suspect-image, suspect-rest, suspect-other}
 use borrow.Author.Needs.{needs}
 use Rattle.checker.proofs.is_suspect.Statement.{statement}
 use Rattle.checker.proofs.is_suspect.Tie as tie
 
-memory-bytes-requires : tie.Need-memory-bytes-requires
-memory-bytes-requires c κs = search needs
-
-add-mark : tie.Need-add-mark
-add-mark c = search needs
-
-shared-slice-read-mark : tie.Need-shared-slice-read-mark
-shared-slice-read-mark c = search needs
+mark-of-requires : tie.Need-mark-of-requires
+mark-of-requires c κs = search needs
 
 shared-slice-read-differs : tie.Need-shared-slice-read-differs
 shared-slice-read-differs c = search needs
@@ -26,7 +20,7 @@ differs-requires c κs = search needs
 returns : tie.Need-returns
 returns c =
     let i = c .before .before .before in
-    c .differs .ensures ∙ sym (suspect-image _ _ _ _ _ (i .before .before .memory-bytes .ensures) (i .if1 .taken))
+    c .differs .ensures ∙ sym (suspect-image _ _ _ _ _ (i .before .mark-of .ensures) (i .if1 .taken))
 
 sub-if2 : tie.Need-sub-if2
 sub-if2 c = search needs
@@ -46,18 +40,18 @@ differs-requires-2 c κs = search needs
 returns-2 : tie.Need-returns-2
 returns-2 c =
     let r = c .before .before in
-    c .differs2 .ensures ∙ sym (suspect-rest _ _ _ _ _ (r .before .before .before .memory-bytes .ensures) (r .before .if1 .left) (r .if2 .taken))
+    c .differs2 .ensures ∙ sym (suspect-rest _ _ _ _ _ (r .before .before .mark-of .ensures) (r .before .if1 .left) (r .if2 .taken))
 
 returns-3 : tie.Need-returns-3
-returns-3 c = sym (suspect-other _ _ _ _ _ (c .before .before .before .memory-bytes .ensures) (c .before .if1 .left) (c .if2 .left))
+returns-3 c =
+    let i = c .before in
+    sym (suspect-other _ _ _ _ _ (i .before .mark-of .ensures) (i .if1 .left) (c .if2 .left))
 
 pub is-suspect-spec : {M : Type 1} → statement M
 is-suspect-spec =
     tie.close
     (tie.spec
-    memory-bytes-requires
-    add-mark
-    shared-slice-read-mark
+    mark-of-requires
     shared-slice-read-differs
     shared-slice-read-differs-2
     differs-requires

@@ -22,9 +22,6 @@ same-length c = search needs
 returns : tie.Need-returns
 returns c = search needs
 
-memory-bytes-requires : tie.Need-memory-bytes-requires
-memory-bytes-requires c κs = search needs
-
 all-are-requires : tie.Need-all-are-requires
 all-are-requires c κs = search needs
 
@@ -33,19 +30,13 @@ same-length-2 c = search needs
 
 returns-2 : tie.Need-returns-2
 returns-2 c =
-    let i = c .before .before .before .before in
+    let i = c .before .before .before in
     let l = i .before .before .before .pre .2 in
     let o = sym (i .before .is-open .ensures) ∙ not-false _ (i .if1 .left) in
     writes-stale _ _ _ _ _ (sym (blank-there _ _ _ _ _ l o _ (c .before .all-are .ensures)) ∙ not-true _ (c .if2 .taken))
 
-add-all-are : tie.Need-add-all-are
-add-all-are c = search needs
-
-add-all-are-2 : tie.Need-add-all-are-2
-add-all-are-2 c = search needs
-
-all-are-requires-2 : tie.Need-all-are-requires-2
-all-are-requires-2 c κs = search needs
+are-marked-requires : tie.Need-are-marked-requires
+are-marked-requires c κs = search needs
 
 same-length-3 : tie.Need-same-length-3
 same-length-3 c = search needs
@@ -53,11 +44,11 @@ same-length-3 c = search needs
 returns-3 : tie.Need-returns-3
 returns-3 c =
     let d = c .before .before .before in
-    let i = d .before .before .before .before in
+    let i = d .before .before .before in
     let l = i .before .before .before .pre .2 in
     let o = sym (i .before .is-open .ensures) ∙ not-false _ (i .if1 .left) in
     let b = sym (blank-there _ _ _ _ _ l o _ (d .before .all-are .ensures)) ∙ not-false _ (d .if2 .left) in
-    writes-unknown _ _ _ _ _ b (sym (known-there _ _ _ _ _ l o _ _ (d .before .before .before .memory-bytes .ensures) (c .before .all-are2 .ensures)) ∙ not-true _ (c .if3 .taken))
+    writes-unknown _ _ _ _ _ b (sym (known-there _ _ _ _ _ l o _ (c .before .are-marked .ensures)) ∙ not-true _ (c .if3 .taken))
 
 copy-requires : tie.Need-copy-requires
 copy-requires c κs = search needs
@@ -69,11 +60,11 @@ returns-4 : tie.Need-returns-4
 returns-4 c =
     let e = c .before .before .before .before in
     let d = e .before .before .before in
-    let i = d .before .before .before .before in
+    let i = d .before .before .before in
     let p = i .before .before .before .pre in
     let o = sym (i .before .is-open .ensures) ∙ not-false _ (i .if1 .left) in
     let b = sym (blank-there _ _ _ _ _ (p .2) o _ (d .before .all-are .ensures)) ∙ not-false _ (d .if2 .left) in
-    let k = sym (known-there _ _ _ _ _ (p .2) o _ _ (d .before .before .before .memory-bytes .ensures) (e .before .all-are2 .ensures)) ∙ not-false _ (e .if3 .left) in
+    let k = sym (known-there _ _ _ _ _ (p .2) o _ (e .before .are-marked .ensures)) ∙ not-false _ (e .if3 .left) in
     writes-sure _ _ _ _ _ _ b k (stored-there _ _ _ _ _ (p .2) o _ (p .1) (c .before .before .copy .ensures))
 
 pub write-spec : {M : Type 1} → statement M
@@ -85,13 +76,10 @@ write-spec =
     write-sparing-requires
     same-length
     returns
-    memory-bytes-requires
     all-are-requires
     same-length-2
     returns-2
-    add-all-are
-    add-all-are-2
-    all-are-requires-2
+    are-marked-requires
     same-length-3
     returns-3
     copy-requires
