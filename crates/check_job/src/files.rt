@@ -10,8 +10,17 @@ pub const IMAGE: usize = 2;
 
 pub const CARD: usize = 3;
 
+// The place of the word `quiet`, behind the files.
+const QUIET: usize = 4;
+
 // The arguments of a call that names all three: the program's own name is the first.
 const NAMED: usize = 4;
+
+// Those of a call with a word behind the names.
+const WORDED: usize = 5;
+
+// The bytes of the word.
+const WORD: usize = 5;
 
 // How a file came out: `count` bytes of it at the front of the buffer, or the system's error.
 pub struct Got {
@@ -40,13 +49,32 @@ fn failed() -> Got
     }
 }
 
-// Does the call name three files, or none?
+fn is_quiet_word(word: &[u8]) -> bool {
+    word.len() == WORD
+        && buffer::byte_at(word, 0) == b'q'
+        && buffer::byte_at(word, 1) == b'u'
+        && buffer::byte_at(word, 2) == b'i'
+        && buffer::byte_at(word, 3) == b'e'
+        && buffer::byte_at(word, 4) == b't'
+}
+
+// Does the call ask for the line alone? A longer word than `quiet` has no room, and counts as one of no bytes.
+pub(crate) fn is_quiet() -> bool {
+    if os::arg_count() != WORDED {
+        return false;
+    }
+    let mut word = [0u8; WORD];
+    let length = os::arg(QUIET, &mut word);
+    is_quiet_word(&word[..length])
+}
+
+// Does the call name three files, with the word `quiet` or with nothing behind them, or none?
 pub(crate) fn are_named_well() -> bool {
     let count = os::arg_count();
     if count < 2 {
         return true;
     }
-    count == NAMED
+    count == NAMED || is_quiet()
 }
 
 fn open_argument(file: usize) -> i32 {

@@ -1,5 +1,5 @@
 // Checks a job against an image and a card: one line on standard output says the verdict, and a sentence or two on
-// standard error say it to people.
+// standard error say it to people, unless the call asks for the line alone.
 mod asked;
 mod ends;
 mod event;
@@ -49,12 +49,18 @@ fn judge(job: &[u8], image: &[u8], card: &[u8]) {
     let mut work = [0u8; WORK];
     let verdict = checker::check(job, image, card, &mut work);
     print(verdict);
+    if files::is_quiet() {
+        return;
+    }
     explain::explain(verdict, job, image, card, &mut work);
     say::text(b"\n");
 }
 
 fn refuse(file: usize, error: i32) {
     print(Verdict::Refused(Refusal::File));
+    if files::is_quiet() {
+        return;
+    }
     refused::unreadable(file, error);
     say::text(b"\n");
 }
@@ -96,6 +102,6 @@ fn main() {
     }
     print(Verdict::Refused(Refusal::File));
     say::text(
-        b"Name three files, the job, the image and the card, or none to take job.txt, image.bin and card.bin in this folder.\n",
+        b"Name three files, the job, the image and the card, or none to take job.txt, image.bin and card.bin in this folder; behind three names, add the word quiet for the line alone.\n",
     );
 }
