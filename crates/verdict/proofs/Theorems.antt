@@ -121,13 +121,20 @@ module _ (n : ℕ) (es : List Event) (image card : List ℕ) where
     λ all. (λ k w fresh. all w fresh .clean k, λ c w fresh. no-end w (all w fresh) c, λ f r w fresh. no-wrong w (all w fresh) f r),
   )
 
--- Any two answers that the promise of `check` allows are equal; after a refusal so are the work areas.
+-- Any two answers that the promise of `check` allows are equal.
 pub one-answer : (n : ℕ) (t image card w : List ℕ) (v u : Verdict) (x y : List ℕ) → Checked n t image card w v x → Checked n t image card w u y → v ≡ u
 one-answer n t image card w v u x y a b = go (checkable n t (length image) (length card) (length w)) a b
   where
     go : (m : Admission) → Ruled m n t image card w v x → Ruled m n t image card w u y → v ≡ u
     go admission.Admitted p q = one-verdict n (eventsOf t) image card v u p q
     go (admission.Refused r) p q = p .0 ∙ sym (q .0)
+
+-- After a refusal so are the work areas.
+pub one-area : (n : ℕ) (t image card w : List ℕ) (v u : Verdict) (x y : List ℕ) (r : Refusal) → checkable n t (length image) (length card) (length w) ≡ admission.Refused r → Checked n t image card w v x → Checked n t image card w u y → x ≡ y
+one-area n t image card w v u x y r e a b =
+    let p : (v ≡ verdict.Refused r) × (x ≡ w) = rw e at a in
+    let q : (u ≡ verdict.Refused r) × (y ≡ w) = rw e at b in
+    p .1 ∙ sym (q .1)
 
 -- The third demand: where `check` does not refuse, it answers Pass exactly when every board works.
 pub demand-three : (n : ℕ) (t image card w : List ℕ) (v : Verdict) (x : List ℕ) → checkable n t (length image) (length card) (length w) ≡ admission.Admitted → Checked n t image card w v x → (v ≡ verdict.Pass → AllWork n (eventsOf t) image card) × (AllWork n (eventsOf t) image card → v ≡ verdict.Pass)
