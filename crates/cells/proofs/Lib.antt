@@ -8,3 +8,4 @@ pub mod InForm
 pub mod Runs
 pub mod Boards
 pub mod Judgement
+pub mod Lowest

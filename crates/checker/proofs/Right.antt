@@ -17,16 +17,8 @@ use Rattle.verdict.specs.Checked.{workBytes}
 use Rattle.cells.specs.Cells.{suspect, lowestFrom}
 use Rattle.checker.specs.Walk.{allAre}
 use Rattle.checker.proofs.Alike.{are-at}
+use Rattle.cells.proofs.Lowest.{lowest-none}
 use Rattle.checker.proofs.Walking.{suspect-image, suspect-rest, suspect-other}
-
-lowest-none : (test : ℕ → Bool) (count i : ℕ) → ((k : ℕ) → i ≤ k → k < i + count → test k ≡ false) → lowestFrom test count i ≡ i + count
-unfolding lowestFrom
-lowest-none test zero i none = sym (add-zero i)
-lowest-none test (suc count) i none =
-    let here : test i ≡ false = none i (omega arith) (omega arith) in
-    let rest : lowestFrom test count (suc i) ≡ suc i + count = lowest-none test count (suc i) (λ k a b. none k (omega arith) (omega arith)) in
-    let e : suc i + count ≡ i + suc count = omega arith in
-    rw here (rest ∙ e)
 
 -- a byte of a part that is all v
 part-at : (v from count : ℕ) (w : List ℕ) → allAre v count (drop from w) ≡ true → from + count ≤ length w → (i : ℕ) → from ≤ i → i < from + count → getD w i 0 ≡ v

@@ -22,6 +22,7 @@ use Rattle.verdict.specs.declared.Verdict.the-variants as verdict
 use Rattle.verdict.specs.Verdict.{pagesEnd}
 use Rattle.verdict.specs.Checked.{workBytes}
 use Rattle.cells.specs.Cells.{begun, Over, ended, overOf, suspect, lowestFrom, endVerdict, overVerdict, verdictOf}
+use Rattle.cells.proofs.Lowest.{lowest-none}
 use Rattle.plan.specs.Plan.{pageAddress, padded, pageOf, getStatus, download, leaving, pagesFrom, pagesOf, planEvents, barred}
 use Rattle.plan.proofs.Requests.{resting, start-free, idle-free, over-on, leave-moves, manifest-moves, pointer-polled}
 use Rattle.plan.proofs.Written.{default-same}
@@ -68,14 +69,6 @@ module _ (n : ℕ) (image card : List ℕ) (some : 1 ≤ n) (bytes : allBytes ca
       arrives-from n image card _ _
       (page-polled n page word xs card w (placed .size) (placed .options) refl unlocked (parts .0) inside two most (pagesFrom image count (suc page)) mode p k heard free short)
       (pages-over count (suc page) DownloadIdle (pageAddress page) (pageWritten n word page xs w) (suc (suc (suc (suc (suc (suc (suc (suc (suc k))))))))) refl idle-free (omega arith) (parts .1) (placed-on n page image card w (pageWritten n word page xs w) inside learns placed))
-
--- no number passes the test
-lowest-none : (test : ℕ → Bool) (count i : ℕ) → ((j : ℕ) → i ≤ j → j < i + count → test j ≡ false) → lowestFrom test count i ≡ i + count
-unfolding lowestFrom
-lowest-none test zero i h = omega arith
-lowest-none test (suc count) i h =
-    let here : test i ≡ false = h i (omega arith) (omega arith) in
-    rw here (lowest-none test count (suc i) (λ j a b. h j (omega arith) (omega arith)) ∙ (let e : suc i + count ≡ i + suc count = omega arith in e))
 
 -- the image in place is what the verdict asks for
 module _ (n : ℕ) (image card w : List ℕ) (lc : length card ≡ optionBytes) (placed : Placed n image card (pagesOf image) w) where
