@@ -16,7 +16,7 @@ ghost use Rattle.device.specs.WellFormed.{wellFormed};
 ghost use Rattle.loader.specs.Perform.{endOf, countOf};
 ghost use Rattle.memory.specs.Flash.{each, stored};
 ghost use Rattle.memory.specs.Whole.{unprotected};
-ghost use Rattle.decision.specs.Decide.{commandOf};
+ghost use Rattle.decision.specs.Decide.{commandOf, decideOf, isStatus};
 ghost use Rattle.hex.specs.Hex.{bytesOf};
 ghost use Rattle.job.specs.Event.{same};
 ghost use Rattle.job.specs.Text.{eventsOf};
@@ -405,9 +405,20 @@ fn command(field: &[u8]) -> Command
     Command::of(&bytes)
 }
 
-// A request on every board; `field` holds its data as digits.
+// A request on every board; `field` holds its data as digits. GETSTATUS is looked for first: it is the most frequent, and has no data.
 fn request(board: Board, device: Device, setup: Setup, field: &[u8], work: &mut [u8]) -> Step
     requires { ⌜ (length (now work) ≡ workBytes (board .pages)) × (wellFormed (board .pages) device ≡ true) × (length (now field) ≡ dataLength setup * 2) ⌝ }
+    ensures { λ r. ⌜ movedAs r (now (work .exit)) ≡ requestMoves (board .pages) device setup (bytesOf (now (field .entry))) (now (work .entry)) ⌝ }
+{
+    if decision::asks_status(device, setup) {
+        return status(board, device, work);
+    }
+    decided(board, device, setup, field, work)
+}
+
+// A request that does not come to Status.
+fn decided(board: Board, device: Device, setup: Setup, field: &[u8], work: &mut [u8]) -> Step
+    requires { ⌜ (length (now work) ≡ workBytes (board .pages)) × (length (now field) ≡ dataLength setup * 2) × ((k : Command) → isStatus (decideOf device setup k) ≡ false) ⌝ }
     ensures { λ r. ⌜ movedAs r (now (work .exit)) ≡ requestMoves (board .pages) device setup (bytesOf (now (field .entry))) (now (work .entry)) ⌝ }
 {
     let decision = decision::decide(device, setup, command(field));
@@ -440,7 +451,10 @@ fn request(board: Board, device: Device, setup: Setup, field: &[u8], work: &mut 
             falls: false,
             device: device,
         },
-        Decision::Status => status(board, device, work),
+        Decision::Status => Step {
+            falls: true,
+            device,
+        },
     }
 }
 

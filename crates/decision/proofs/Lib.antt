@@ -1,3 +1,4 @@
 pub mod Cases
 pub mod Bounds
 pub mod Form
+pub mod Asking

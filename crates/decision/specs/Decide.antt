@@ -1,5 +1,5 @@
 -- What a request comes to, before any buffer is touched. Document 01, "Events", "DNLOAD", "UPLOAD". Assumes nothing.
-use mathlib.Core.Bool.{Bool, cond}
+use mathlib.Core.Bool.{Bool, true, false, cond}
 use mathlib.Core.List.{List}
 use Prim.Native.Nat.{ℕ, _+_, _*_}
 use lib.Dec.{eqb, leb}
@@ -87,3 +87,14 @@ decideOf d s k =
     cond (silentOf (d .mode)) Silent
     (cond (allowedOf (requestOf s) (d .mode)) (servedOf (requestOf s) d s k)
     (refusedOf d))
+
+-- "GETSTATUS": a request that comes to it
+abbrev pub isStatus : Decision → Bool
+isStatus Silent = false
+isStatus (Stall next) = false
+isStatus (Accept next) = false
+isStatus (Take next) = false
+isStatus (Commands next count) = false
+isStatus Read = false
+isStatus State = false
+isStatus Status = true

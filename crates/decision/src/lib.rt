@@ -1,6 +1,6 @@
 // What a request comes to, decided from numbers alone. Loader and checker both act on it.
 ghost use mathlib.Core.Path.{_≡_};
-ghost use Rattle.decision.specs.Decide.{commandOf, decideOf, servedOf, downloadOf, commandedOf, erasingOf, uploadOf, listedCount, waiting, waitingIf, refusedOf};
+ghost use Rattle.decision.specs.Decide.{commandOf, decideOf, isStatus, servedOf, downloadOf, commandedOf, erasingOf, uploadOf, listedCount, waiting, waitingIf, refusedOf};
 use device::Device;
 use device::Mode;
 use device::Pending;
@@ -43,6 +43,23 @@ impl Command {
             code,
             address: a as u32 + b as u32 * 0x100 + c as u32 * 0x1_0000 + d as u32 * 0x100_0000,
         }
+    }
+}
+
+// Does the request come to Status? Most requests of a job do, and no command has to be read for it: a caller may ask this first.
+pub fn asks_status(device: Device, setup: Setup) -> bool
+    ensures { λ r. ⌜ ((k : Command) → r ≡ isStatus (decideOf device setup k)) ⌝ }
+{
+    let mode = device.mode;
+    let request = setup.request();
+    match request {
+        Request::GetStatus => device::allowed(request, mode),
+        Request::Download => false,
+        Request::Upload => false,
+        Request::ClearStatus => false,
+        Request::GetState => false,
+        Request::Abort => false,
+        Request::Unknown => false,
     }
 }
 

@@ -1,139 +1,46 @@
 -- `checker::request` meets its contract. Assumes nothing.
+use mathlib.Core.Path.{refl, _∙_, sym}
+use Rattle.decision.proofs.Asking.{only-status}
 use Rattle.checker.proofs.Answers.{request-moves}
-use Rattle.loader.proofs.Requests.{decided-bounded}
-use Rattle.request.proofs.Lengths.{data-at-most}
-use native.Mathlib.Omega.{arith}
-use mathlib.Core.Path.{_∙_}
 use borrow.Author.Needs.{needs}
 use Rattle.checker.proofs.request.Statement.{statement}
 use Rattle.checker.proofs.request.Tie as tie
 
-command-requires : tie.Need-command-requires
-command-requires c κs = search needs
-
-decide-requires : tie.Need-decide-requires
-decide-requires c κs = search needs
-
-enum-told : tie.Need-enum-told
-enum-told c = search needs
-
-enum-told-2 : tie.Need-enum-told-2
-enum-told-2 c = search needs
-
-enum-known-decision : tie.Need-enum-known-decision
-enum-known-decision c = search needs
-
-enum-known-decision-2 : tie.Need-enum-known-decision-2
-enum-known-decision-2 c = search needs
-
-block-from-requires : tie.Need-block-from-requires
-block-from-requires c κs = search needs
-
-decode-requires : tie.Need-decode-requires
-decode-requires c κs =
-    let t = c .before .before .before in
-    let d = t .before .before in
-    let s = d .before .before .before .before in
-    let short = decided-bounded _ _ _ _ _ (d .decide .ensures) (t .decision2 .given .1) in
-    omega (arith, c .block-from .ensures, s .pre .0, s .pre .2, short, data-at-most (s .args .setup))
-
-enum-known-decision-3 : tie.Need-enum-known-decision-3
-enum-known-decision-3 c = search needs
-
-enum-told-3 : tie.Need-enum-told-3
-enum-told-3 c = search needs
-
-upload-requires : tie.Need-upload-requires
-upload-requires c κs = search needs
-
-enum-told-4 : tie.Need-enum-told-4
-enum-told-4 c = search needs
-
-enum-told-5 : tie.Need-enum-told-5
-enum-told-5 c = search needs
+asks-status-requires : tie.Need-asks-status-requires
+asks-status-requires c κs = search needs
 
 status-requires : tie.Need-status-requires
 status-requires c κs = search needs
 
-returns : tie.Need-returns
-returns c =
-    let d = c .before .before in
-    request-moves _ _ _ _ _ _ _ _ (d .before .command .ensures) (d .decide .ensures) (c .enum-told .given .1)
-
-returns-2 : tie.Need-returns-2
-returns-2 c =
-    let d = c .before .before in
-    request-moves _ _ _ _ _ _ _ _ (d .before .command .ensures) (d .decide .ensures) (c .enum-told2 .given .1)
-
-returns-3 : tie.Need-returns-3
-returns-3 c =
-    let d = c .before .before .before in
-    request-moves _ _ _ _ _ _ _ _ (d .before .command .ensures) (d .decide .ensures) (c .before .decision .given .1)
-
 same-length : tie.Need-same-length
 same-length c = search needs
 
-returns-4 : tie.Need-returns-4
-returns-4 c =
-    let p = c .before .before in
-    let t = p .before .before .before .before in
-    let d = t .before .before in
-    rw (p .decode .ensures, p .before .block-from .ensures) (request-moves _ _ _ _ _ _ _ _ (d .before .command .ensures) (d .decide .ensures) (t .decision2 .given .1))
+returns : tie.Need-returns
+returns c =
+    let t = c .before .before in
+    let a = t .before .before .before in
+    t .status .ensures ∙ request-moves _ _ _ _ _ _ _ _ refl refl (only-status _ (sym (a .asks-status .ensures _) ∙ t .before .before .if1 .taken))
 
-returns-5 : tie.Need-returns-5
-returns-5 c =
-    let d = c .before .before .before in
-    request-moves _ _ _ _ _ _ _ _ (d .before .command .ensures) (d .decide .ensures) (c .before .decision3 .given .1)
+decided-requires : tie.Need-decided-requires
+decided-requires c κs =
+    let a = c .before .before in
+    let s = a .before .before .before in
+    (s .pre .0, s .pre .2, λ k. sym (a .asks-status .ensures k) ∙ c .before .if1 .left)
 
 same-length-2 : tie.Need-same-length-2
 same-length-2 c = search needs
 
-returns-6 : tie.Need-returns-6
-returns-6 c =
-    let t = c .before .before in
-    let d = t .before .before in
-    c .upload .ensures ∙ request-moves _ _ _ _ _ _ _ _ (d .before .command .ensures) (d .decide .ensures) (t .enum-told3 .given .1)
-
-returns-7 : tie.Need-returns-7
-returns-7 c =
-    let d = c .before .before in
-    request-moves _ _ _ _ _ _ _ _ (d .before .command .ensures) (d .decide .ensures) (c .enum-told4 .given .1)
-
-same-length-3 : tie.Need-same-length-3
-same-length-3 c = search needs
-
-returns-8 : tie.Need-returns-8
-returns-8 c =
-    let t = c .before .before .before .before in
-    let d = t .before .before in
-    c .before .before .status .ensures ∙ request-moves _ _ _ _ _ _ _ _ (d .before .command .ensures) (d .decide .ensures) (t .enum-told5 .given .1)
+returns-2 : tie.Need-returns-2
+returns-2 c = search needs
 
 pub request-spec : {M : Type 1} → statement M
 request-spec =
     tie.close
     (tie.spec
-    command-requires
-    decide-requires
-    enum-told
-    enum-told-2
-    enum-known-decision
-    enum-known-decision-2
-    block-from-requires
-    decode-requires
-    enum-known-decision-3
-    enum-told-3
-    upload-requires
-    enum-told-4
-    enum-told-5
+    asks-status-requires
     status-requires
-    returns
-    returns-2
-    returns-3
     same-length
-    returns-4
-    returns-5
+    returns
+    decided-requires
     same-length-2
-    returns-6
-    returns-7
-    same-length-3
-    returns-8)
+    returns-2)
