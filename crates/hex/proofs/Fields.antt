@@ -6,7 +6,7 @@ use Prim.Native.Nat.{ℕ, zero, suc, _+_, _*_, _/_, _%_, _≤_, _<_}
 use native.Mathlib.Omega.{arith}
 use native.Mathlib.Numerals.{add-one, add-two}
 use lib.Dec.{ltb, eqb}
-use lib.ListN.{length, drop, getD, set, drop-of-length-le}
+use lib.ListN.{length, take, drop, getD, set, drop-of-length-le}
 use lib.Seq.{drop-cons, sets}
 use borrow.Author.Tests.{lt-ltb, le-ltb, ltb-true, ne-eqb}
 use Rattle.laws.specs.Bytes.{put}
@@ -31,11 +31,41 @@ bytes-length (d ∷ e ∷ ds) =
     let q : length (bytesOf ds) ≡ length ds / 2 = bytes-length ds in
     omega arith
 
-pub bytes-are : (ds : List ℕ) → allBytes (bytesOf ds) ≡ true
+-- the first byte of a field of digits is a digit, and so are the others
+pub digits-cons : (d : ℕ) (ds : List ℕ) → allDigits (d ∷ ds) ≡ true → (valueOf d < 16) × (allDigits ds ≡ true)
+unfolding allDigits
+digits-cons d ds h =
+    let p = and-true (ltb (valueOf d) 16) (allDigits ds) h in
+    (ltb-true _ _ (p .0), p .1)
+
+pub digit-at : (ds : List ℕ) (i : ℕ) → allDigits ds ≡ true → i < length ds → valueOf (getD ds i 0) < 16
+digit-at [] i h k = absurd (omega arith)
+digit-at (d ∷ ds) zero h k = digits-cons d ds h .0
+digit-at (d ∷ ds) (suc i) h k =
+    let l : i < length ds = omega arith in
+    digit-at ds i (digits-cons d ds h .1) l
+
+pub digits-take : (n : ℕ) (ds : List ℕ) → allDigits ds ≡ true → allDigits (take n ds) ≡ true
+unfolding allDigits
+digits-take zero ds h = refl
+digits-take (suc n) [] h = refl
+digits-take (suc n) (d ∷ ds) h =
+    let p = digits-cons d ds h in
+    rw (lt-ltb (valueOf d) 16 (p .0), digits-take n ds (p .1))
+
+pub digits-drop : (n : ℕ) (ds : List ℕ) → allDigits ds ≡ true → allDigits (drop n ds) ≡ true
+digits-drop zero ds h = h
+digits-drop (suc n) [] h = h
+digits-drop (suc n) (d ∷ ds) h = digits-drop n ds (digits-cons d ds h .1)
+
+pub bytes-are : (ds : List ℕ) → allDigits ds ≡ true → allBytes (bytesOf ds) ≡ true
 unfolding bytesOf allBytes
-bytes-are [] = refl
-bytes-are (d ∷ []) = refl
-bytes-are (d ∷ e ∷ ds) = rw (lt-ltb (byteOf d e) 256 (byte-small d e), bytes-are ds)
+bytes-are [] h = refl
+bytes-are (d ∷ []) h = refl
+bytes-are (d ∷ e ∷ ds) h =
+    let p = digits-cons d (e ∷ ds) h in
+    let q = digits-cons e ds (p .1) in
+    rw (lt-ltb (byteOf d e) 256 (byte-small d e (p .0) (q .0)), bytes-are ds (q .1))
 
 -- the i-th byte that a field spells stands at its digits 2i and 2i + 1
 pub byte-of : (ds : List ℕ) (i : ℕ) → i < length ds / 2 → byteOf (getD ds (i * 2) 0) (getD ds (i * 2 + 1) 0) ≡ getD (bytesOf ds) i 0
@@ -67,16 +97,14 @@ digits-hex (x ∷ xs) =
 
 -- spelling what was read gives the field, where it has digits only, and an even number of them
 pub hex-bytes : (ds : List ℕ) → allDigits ds ≡ true → length ds % 2 ≡ 0 → hexOf (bytesOf ds) ≡ ds
-unfolding hexOf bytesOf allDigits
+unfolding hexOf bytesOf
 hex-bytes [] h k = refl
 hex-bytes (d ∷ []) h k = absurd (omega arith)
 hex-bytes (d ∷ e ∷ ds) h k =
-    let p = and-true (ltb (valueOf d) 16) (ltb (valueOf e) 16 && allDigits ds) h in
-    let q = and-true (ltb (valueOf e) 16) (allDigits ds) (p .1) in
-    let a : valueOf d < 16 = ltb-true _ _ (p .0) in
-    let b : valueOf e < 16 = ltb-true _ _ (q .0) in
+    let p = digits-cons d (e ∷ ds) h in
+    let q = digits-cons e ds (p .1) in
     let m : length ds % 2 ≡ 0 = omega arith in
-    rw (byte-high d e a b, byte-low d e a b, hex-bytes ds (q .1) m)
+    rw (byte-high d e (p .0) (q .0), byte-low d e (p .0) (q .0), hex-bytes ds (q .1) m)
 
 -- a turn of a loop that gathers the worst fault of a field's bytes, and its end
 pub digits-turn : (ds : List ℕ) (i worst f w : ℕ) → i < length ds → f ≡ faultOf (getD ds i 0) → w ≡ cond (ltb worst f) f worst → (eqb worst 0 && allDigits (drop i ds)) ≡ (eqb w 0 && allDigits (drop (i + 1) ds))

@@ -1,11 +1,11 @@
--- Laws of a digit: what `valueOf` is in each range, that value and digit undo each other, and the fault and the half byte of a digit. Assumes nothing.
+-- Laws of a digit: what `valueOf` is in each range, that value and digit undo each other, the fault of a digit, and the byte of two. Assumes nothing.
 use mathlib.Core.Path.{_≡_, ap, _∙_, sym}
 use Prim.Native.Nat.{ℕ, _+_, _-_, _*_, _/_, _%_, _≤_, _<_}
 use native.Mathlib.Omega.{arith}
 use lib.Dec.{leb}
 use borrow.Author.Tests.{le-leb, lt-leb, lt-ltb, le-ltb}
 use Rattle.laws.proofs.Split.{by-lt, and-right-false}
-use Rattle.hex.specs.Hex.{valueOf, digitOf, nibbleOf, byteOf, faultOf}
+use Rattle.hex.specs.Hex.{valueOf, digitOf, byteOf, faultOf}
 
 pub value-low : (d : ℕ) → 48 ≤ d → d < 58 → valueOf d ≡ d - 48
 unfolding valueOf
@@ -129,65 +129,40 @@ pub fault-above : (d : ℕ) → 71 ≤ d → faultOf d ≡ 1
 unfolding faultOf
 fault-above d h = rw (value-above d h)
 
--- the half byte of a digit is its value
-pub nibble-value : (d : ℕ) → valueOf d < 16 → nibbleOf d ≡ valueOf d
-unfolding nibbleOf
-nibble-value d v =
+-- the value of a digit, without a test
+pub half-value : (d : ℕ) → valueOf d < 16 → d % 16 + d / 64 * 9 ≡ valueOf d
+half-value d v =
     by-lt d 58
     (λ h.
     by-lt d 48
     (λ l. let e : valueOf d ≡ 16 = value-below d l in absurd (omega arith))
-    (λ l.
-    let e : valueOf d ≡ d - 48 = value-low d l h in
-    let a : d / 64 ≡ 0 = omega arith in
-    let b : d % 16 ≡ d - 48 = omega arith in
-    rw (a, b, e) (let z : (d - 48 + 0 * 9) % 16 ≡ d - 48 = omega arith in z)))
+    (λ l. let e : valueOf d ≡ d - 48 = value-low d l h in omega arith))
     (λ h.
     by-lt d 65
     (λ l. let e : valueOf d ≡ 16 = value-between d h l in absurd (omega arith))
     (λ l.
     by-lt d 71
-    (λ m.
-    let e : valueOf d ≡ d - 55 = value-high d l m in
-    let a : d / 64 ≡ 1 = omega arith in
-    let b : d % 16 ≡ d - 64 = omega arith in
-    rw (a, b, e) (let z : (d - 64 + 1 * 9) % 16 ≡ d - 55 = omega arith in z))
+    (λ m. let e : valueOf d ≡ d - 55 = value-high d l m in omega arith)
     (λ m. let e : valueOf d ≡ 16 = value-above d m in absurd (omega arith))))
-
-pub nibble-small : (d : ℕ) → nibbleOf d < 16
-unfolding nibbleOf
-nibble-small d = omega arith
-
-pub nibble-digit : (x : ℕ) → nibbleOf (digitOf x) ≡ x % 16
-nibble-digit x =
-    let e : valueOf (digitOf x) ≡ x % 16 = value-digit x in
-    let h : valueOf (digitOf x) < 16 = omega arith in
-    nibble-value (digitOf x) h ∙ e
 
 pub byte-digits : (x : ℕ) → x < 256 → byteOf (digitOf (x / 16)) (digitOf x) ≡ x
 unfolding byteOf
 byte-digits x h =
     let e : x / 16 % 16 * 16 + x % 16 ≡ x = omega arith in
-    rw (nibble-digit (x / 16), nibble-digit x) e
+    rw (value-digit (x / 16), value-digit x) e
 
 pub byte-high : (d e : ℕ) → valueOf d < 16 → valueOf e < 16 → digitOf (byteOf d e / 16) ≡ d
 unfolding byteOf
 byte-high d e h k =
-    let a : nibbleOf d ≡ valueOf d = nibble-value d h in
-    let b : nibbleOf e ≡ valueOf e = nibble-value e k in
-    let q : (nibbleOf d * 16 + nibbleOf e) / 16 ≡ valueOf d = omega arith in
+    let q : (valueOf d * 16 + valueOf e) / 16 ≡ valueOf d = omega arith in
     ap digitOf q ∙ digit-value d h
 
 pub byte-low : (d e : ℕ) → valueOf d < 16 → valueOf e < 16 → digitOf (byteOf d e) ≡ e
 unfolding byteOf
 byte-low d e h k =
-    let b : nibbleOf e ≡ valueOf e = nibble-value e k in
-    let q : (nibbleOf d * 16 + nibbleOf e) % 16 ≡ valueOf e = omega arith in
-    sym (digit-mod (nibbleOf d * 16 + nibbleOf e)) ∙ ap digitOf q ∙ digit-value e k
+    let q : (valueOf d * 16 + valueOf e) % 16 ≡ valueOf e = omega arith in
+    sym (digit-mod (valueOf d * 16 + valueOf e)) ∙ ap digitOf q ∙ digit-value e k
 
-pub byte-small : (d e : ℕ) → byteOf d e < 256
+pub byte-small : (d e : ℕ) → valueOf d < 16 → valueOf e < 16 → byteOf d e < 256
 unfolding byteOf
-byte-small d e =
-    let a : nibbleOf d < 16 = nibble-small d in
-    let b : nibbleOf e < 16 = nibble-small e in
-    omega arith
+byte-small d e h k = omega arith

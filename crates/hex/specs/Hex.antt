@@ -12,13 +12,9 @@ valueOf d = cond (leb 48 d && leb d 57) (d - 48) (cond (leb 65 d && leb d 70) (d
 unfoldable pub digitOf : ℕ → ℕ
 digitOf x = cond (ltb (x % 16) 10) (x % 16 + 48) (x % 16 + 55)
 
--- the half byte that a digit spells: 0 to 9 have it as their low half, A to F are 9 past theirs; for what is no digit, some half byte
-unfoldable pub nibbleOf : ℕ → ℕ
-nibbleOf d = (d % 16 + d / 64 * 9) % 16
-
--- the byte that two digits spell; for what are no digits, some byte
+-- the byte that two digits spell
 unfoldable pub byteOf : ℕ → ℕ → ℕ
-byteOf high low = nibbleOf high * 16 + nibbleOf low
+byteOf high low = valueOf high * 16 + valueOf low
 
 -- 0 for a digit, 1 for any other byte
 unfoldable pub faultOf : ℕ → ℕ

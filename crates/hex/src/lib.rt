@@ -1,11 +1,11 @@
 // Hexadecimal: a digit, and a field of digits, both ways.
 ghost use mathlib.Core.Path.{_≡_};
-ghost use mathlib.Core.Bool.{cond};
+ghost use mathlib.Core.Bool.{true, cond};
 ghost use Prim.Native.Nat.{_+_, _*_, _/_, _≤_, _<_};
 ghost use lib.Dec.{ltb};
 ghost use lib.ListN.{length};
 ghost use Rattle.laws.specs.Bytes.{put};
-ghost use Rattle.hex.specs.Hex.{digitOf, nibbleOf, byteOf, faultOf, allDigits, bytesOf, hexOf};
+ghost use Rattle.hex.specs.Hex.{valueOf, digitOf, byteOf, faultOf, allDigits, bytesOf, hexOf};
 
 // The digit of the low half of a byte.
 pub fn digit(byte: u8) -> u8
@@ -15,15 +15,17 @@ pub fn digit(byte: u8) -> u8
     if n < 10 { n + 48 } else { n + 55 }
 }
 
-// The half byte that a digit spells. For what is no digit it is some half byte: letters have bit 6 set and lie 9 past theirs, and no test is needed.
+// The value of a digit, without a test: letters have bit 6 set, and lie 9 past their low half.
 fn nibble(digit: u8) -> u8
-    ensures { λ r. ⌜ (r ≡ nibbleOf digit) × (r < 16) ⌝ }
+    requires { ⌜ valueOf digit < 16 ⌝ }
+    ensures { λ r. ⌜ (r ≡ valueOf digit) × (r < 16) ⌝ }
 {
-    (digit % 16 + digit / 64 * 9) % 16
+    digit % 16 + digit / 64 * 9
 }
 
-// The byte that two digits spell; for what are no digits, some byte.
+// The byte that two digits spell.
 pub fn byte(high: u8, low: u8) -> u8
+    requires { ⌜ (valueOf high < 16) × (valueOf low < 16) ⌝ }
     ensures { λ r. ⌜ r ≡ byteOf high low ⌝ }
 {
     nibble(high) * 16 + nibble(low)
@@ -65,7 +67,7 @@ pub fn digits(field: &[u8]) -> bool
 
 // The bytes that the field spells go over those of `out` from place `at` on; a last digit without its second is left out.
 pub fn decode(field: &[u8], out: &mut [u8], at: usize)
-    requires { ⌜ at + length (now field) / 2 ≤ length (now out) ⌝ }
+    requires { ⌜ (at + length (now field) / 2 ≤ length (now out)) × (allDigits (now field) ≡ true) ⌝ }
     ensures { λ _. ⌜ now (out .exit) ≡ put at (bytesOf (now (field .entry))) (now (out .entry)) ⌝ }
 {
     let count = field.len() / 2;

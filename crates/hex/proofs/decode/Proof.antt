@@ -1,12 +1,11 @@
 -- `hex::decode` meets its contract. Assumes nothing.
 use native.Mathlib.Omega.{arith}
-use Rattle.hex.proofs.Fields.{read-turn, read-end}
+use Rattle.hex.proofs.Fields.{digit-at, read-turn, read-end}
 use Rattle.hex.specs.Hex.{bytesOf}
-use borrow.Author.Needs.{needs}
 use lib.Seq.{sets}
 use lib.ListN.{length, drop, length-set}
 use native.Mathlib.Nat.{add-zero}
-use Prim.Native.Nat.{_+_, _-_}
+use Prim.Native.Nat.{_+_, _-_, _*_, _<_}
 use mathlib.Core.Path.{_≡_, refl, sym, _∙_}
 use Rattle.hex.proofs.decode.Statement.{statement}
 use Rattle.hex.proofs.decode.Tie as tie
@@ -36,7 +35,12 @@ shared-slice-read-byte-2 : tie.Need-shared-slice-read-byte-2 Inv-loop μ-loop
 shared-slice-read-byte-2 c = omega arith
 
 byte-requires : tie.Need-byte-requires Inv-loop μ-loop
-byte-requires c κs = search needs
+byte-requires c κs =
+    let l = c .before .before .before .loop in
+    let s = c .before .before .before .before .before .before in
+    let a : l .i * 2 < length (s .args .field .now) = omega arith in
+    let b : l .i * 2 + 1 < length (s .args .field .now) = omega arith in
+    search (digit-at (s .args .field .now) _ (s .pre .1) a, digit-at (s .args .field .now) _ (s .pre .1) b)
 
 add-out : tie.Need-add-out Inv-loop μ-loop
 add-out c = omega arith
@@ -59,7 +63,7 @@ same-length : tie.Need-same-length Inv-loop μ-loop
 same-length c = c .before .loop .inv .1
 
 returns : tie.Need-returns Inv-loop μ-loop
-returns c = read-end _ _ _ _ _ (c .loop-test .left) (c .before .loop .inv .0) (c .before .before .before .before .pre)
+returns c = read-end _ _ _ _ _ (c .loop-test .left) (c .before .loop .inv .0) (c .before .before .before .before .pre .0)
 
 pub decode-spec : {M : Type 1} → statement M
 decode-spec =
