@@ -1,3 +1,4 @@
 pub mod OneDigit
 pub mod Fields
 pub mod Bytes
+pub mod Wide

@@ -31,6 +31,11 @@ bytesOf [] = []
 bytesOf (d ∷ []) = []
 bytesOf (d ∷ e ∷ ds) = byteOf d e ∷ bytesOf ds
 
+-- bytes as one number, the first the lowest
+unfoldable pub numberOf : List ℕ → ℕ
+numberOf [] = 0
+numberOf (x ∷ xs) = numberOf xs * 256 + x
+
 -- the field that spells some bytes
 unfoldable pub hexOf : List ℕ → List ℕ
 hexOf [] = []
