@@ -1,5 +1,6 @@
 -- Laws of a digit: what `valueOf` is in each range, that value and digit undo each other, the fault of a digit, and the byte of two. Assumes nothing.
 use mathlib.Core.Path.{_≡_, ap, _∙_, sym}
+use mathlib.Core.Logic.{_⊎_, inl, inr, ⊎-elim}
 use Prim.Native.Nat.{ℕ, _+_, _-_, _*_, _/_, _%_, _≤_, _<_}
 use native.Mathlib.Omega.{arith}
 use lib.Dec.{leb}
@@ -58,29 +59,29 @@ value-digit x =
     let e : x % 16 + 55 - 55 ≡ x % 16 = omega arith in
     ap valueOf (digit-high x h) ∙ value-high (x % 16 + 55) a b ∙ e)
 
--- a digit is the capital digit of its value
-pub digit-value : (d : ℕ) → valueOf d < 16 → digitOf (valueOf d) ≡ d
-digit-value d v =
+-- the bytes that are digits: 0 to 9, and A to F
+pub digit-ranges : (d : ℕ) → valueOf d < 16 → ((48 ≤ d) × (d < 58)) ⊎ ((65 ≤ d) × (d < 71))
+digit-ranges d v =
     by-lt d 58
-    (λ h.
-    by-lt d 48
-    (λ l. let e : valueOf d ≡ 16 = value-below d l in absurd (omega arith))
-    (λ l.
-    let e : valueOf d ≡ d - 48 = value-low d l h in
-    let s : (d - 48) % 16 < 10 = omega arith in
-    let t : (d - 48) % 16 + 48 ≡ d = omega arith in
-    ap digitOf e ∙ digit-low (d - 48) s ∙ t))
+    (λ h. by-lt d 48 (λ l. let e : valueOf d ≡ 16 = value-below d l in absurd (omega arith)) (λ l. inl (l, h)))
     (λ h.
     by-lt d 65
     (λ l. let e : valueOf d ≡ 16 = value-between d h l in absurd (omega arith))
-    (λ l.
-    by-lt d 71
-    (λ m.
-    let e : valueOf d ≡ d - 55 = value-high d l m in
+    (λ l. by-lt d 71 (λ m. inr (l, m)) (λ m. let e : valueOf d ≡ 16 = value-above d m in absurd (omega arith))))
+
+-- a digit is the capital digit of its value
+pub digit-value : (d : ℕ) → valueOf d < 16 → digitOf (valueOf d) ≡ d
+digit-value d v =
+    ⊎-elim
+    (λ r.
+    let s : (d - 48) % 16 < 10 = omega arith in
+    let t : (d - 48) % 16 + 48 ≡ d = omega arith in
+    ap digitOf (value-low d (r .0) (r .1)) ∙ digit-low (d - 48) s ∙ t)
+    (λ r.
     let s : 10 ≤ (d - 55) % 16 = omega arith in
     let t : (d - 55) % 16 + 55 ≡ d = omega arith in
-    ap digitOf e ∙ digit-high (d - 55) s ∙ t)
-    (λ m. let e : valueOf d ≡ 16 = value-above d m in absurd (omega arith))))
+    ap digitOf (value-high d (r .0) (r .1)) ∙ digit-high (d - 55) s ∙ t)
+    (digit-ranges d v)
 
 -- no digit is a byte below 48: not a tab, not LF, not the 0 that stands for what is past the end
 pub digit-above : (x : ℕ) → 48 ≤ digitOf x
@@ -132,18 +133,7 @@ fault-above d h = rw (value-above d h)
 -- the value of a digit, without a test
 pub half-value : (d : ℕ) → valueOf d < 16 → d % 16 + d / 64 * 9 ≡ valueOf d
 half-value d v =
-    by-lt d 58
-    (λ h.
-    by-lt d 48
-    (λ l. let e : valueOf d ≡ 16 = value-below d l in absurd (omega arith))
-    (λ l. let e : valueOf d ≡ d - 48 = value-low d l h in omega arith))
-    (λ h.
-    by-lt d 65
-    (λ l. let e : valueOf d ≡ 16 = value-between d h l in absurd (omega arith))
-    (λ l.
-    by-lt d 71
-    (λ m. let e : valueOf d ≡ d - 55 = value-high d l m in omega arith)
-    (λ m. let e : valueOf d ≡ 16 = value-above d m in absurd (omega arith))))
+    ⊎-elim (λ r. let e : valueOf d ≡ d - 48 = value-low d (r .0) (r .1) in omega arith) (λ r. let e : valueOf d ≡ d - 55 = value-high d (r .0) (r .1) in omega arith) (digit-ranges d v)
 
 pub byte-digits : (x : ℕ) → x < 256 → byteOf (digitOf (x / 16)) (digitOf x) ≡ x
 unfolding byteOf
