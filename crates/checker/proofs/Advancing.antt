@@ -13,7 +13,7 @@ use Rattle.device.specs.declared.Device.{Device}
 use Rattle.device.specs.State.{started}
 use Rattle.device.specs.WellFormed.{wellFormed}
 use Rattle.device.proofs.Form.{Form, form-of, well-formed}
-use Rattle.hex.specs.Hex.{bytesOf}
+use Rattle.hex.specs.Hex.{allDigits, bytesOf}
 use Rattle.job.specs.declared.Item.the-variants as item
 use Rattle.job.specs.Event.{Event, attach, request, proper, textOf}
 use Rattle.job.specs.Text.{firstLine, linesOf, eventsIn, eventsOf}
@@ -56,11 +56,14 @@ module _ (t : List ℕ) (at : ℕ) (a : Ahead t at) where
         let m = tells .onward .within in
         (omega arith, omega arith, omega arith, omega arith)
 
-    pub data-digits : length (take (next - 1 - data-at) (drop data-at t)) ≡ dataLength s * 2
-    data-digits =
+    pub data-long : length (take (next - 1 - data-at) (drop data-at t)) ≡ dataLength s * 2
+    data-long =
         let h = data-within in
         let r : length (drop data-at t) ≡ length t - data-at = length-drop data-at t in
         length-take-le (next - 1 - data-at) (drop data-at t) (omega arith) ∙ h .3
+
+    pub data-digits : allDigits (take (next - 1 - data-at) (drop data-at t)) ≡ true
+    data-digits = ap (λ (k : ℕ). allDigits (take k (drop data-at t))) (data-within .3) ∙ tells .data-digits
 
     -- its bytes are what its setup and its digits spell
     spells : bytesOf (take (next - 1 - data-at) (drop data-at t)) ≡ drop 8 (tells .bytes)

@@ -17,7 +17,7 @@ ghost use Rattle.loader.specs.Perform.{endOf, countOf};
 ghost use Rattle.memory.specs.Flash.{each, stored};
 ghost use Rattle.memory.specs.Whole.{unprotected};
 ghost use Rattle.decision.specs.Decide.{commandOf, decideOf, isStatus};
-ghost use Rattle.hex.specs.Hex.{bytesOf};
+ghost use Rattle.hex.specs.Hex.{allDigits, bytesOf};
 ghost use Rattle.job.specs.Event.{same};
 ghost use Rattle.job.specs.Text.{eventsOf};
 ghost use Rattle.job.specs.Calls.{measureOf};
@@ -382,7 +382,7 @@ fn upload(board: Board, device: Device, setup: Setup, work: &[u8]) -> Step
 
 // The byte that two digits of a field spell, or 0 past its end.
 fn byte_in(field: &[u8], i: usize) -> u8
-    requires { ⌜ i < 5 ⌝ }
+    requires { ⌜ (i < 5) × (allDigits (now field) ≡ true) ⌝ }
     ensures { λ r. ⌜ r ≡ getD (bytesOf (now (field .entry))) i 0 ⌝ }
 {
     if field.len() / 2 <= i {
@@ -393,6 +393,7 @@ fn byte_in(field: &[u8], i: usize) -> u8
 
 // The command that a field of data spells.
 fn command(field: &[u8]) -> Command
+    requires { ⌜ allDigits (now field) ≡ true ⌝ }
     ensures { λ r. ⌜ r ≡ commandOf (bytesOf (now (field .entry))) ⌝ }
 {
     let bytes = [
@@ -407,7 +408,7 @@ fn command(field: &[u8]) -> Command
 
 // A request on every board; `field` holds its data as digits. GETSTATUS is looked for first: it is the most frequent, and has no data.
 fn request(board: Board, device: Device, setup: Setup, field: &[u8], work: &mut [u8]) -> Step
-    requires { ⌜ (length (now work) ≡ workBytes (board .pages)) × (wellFormed (board .pages) device ≡ true) × (length (now field) ≡ dataLength setup * 2) ⌝ }
+    requires { ⌜ (length (now work) ≡ workBytes (board .pages)) × (wellFormed (board .pages) device ≡ true) × (length (now field) ≡ dataLength setup * 2) × (allDigits (now field) ≡ true) ⌝ }
     ensures { λ r. ⌜ movedAs r (now (work .exit)) ≡ requestMoves (board .pages) device setup (bytesOf (now (field .entry))) (now (work .entry)) ⌝ }
 {
     if decision::asks_status(device, setup) {
@@ -418,7 +419,7 @@ fn request(board: Board, device: Device, setup: Setup, field: &[u8], work: &mut 
 
 // A request that does not come to Status.
 fn decided(board: Board, device: Device, setup: Setup, field: &[u8], work: &mut [u8]) -> Step
-    requires { ⌜ (length (now work) ≡ workBytes (board .pages)) × (length (now field) ≡ dataLength setup * 2) × ((k : Command) → isStatus (decideOf device setup k) ≡ false) ⌝ }
+    requires { ⌜ (length (now work) ≡ workBytes (board .pages)) × (length (now field) ≡ dataLength setup * 2) × (allDigits (now field) ≡ true) × ((k : Command) → isStatus (decideOf device setup k) ≡ false) ⌝ }
     ensures { λ r. ⌜ movedAs r (now (work .exit)) ≡ requestMoves (board .pages) device setup (bytesOf (now (field .entry))) (now (work .entry)) ⌝ }
 {
     let decision = decision::decide(device, setup, command(field));

@@ -79,6 +79,21 @@ byte-of (d ∷ e ∷ ds) (suc i) h =
     let b : suc (suc (i * 2)) + 1 ≡ suc (suc (i * 2 + 1)) = omega arith in
     rw (a, b) (byte-of ds i k)
 
+-- a part of a field spells that part of the bytes
+pub bytes-of-take : (n : ℕ) (ds : List ℕ) → bytesOf (take (n * 2) ds) ≡ take n (bytesOf ds)
+unfolding bytesOf
+bytes-of-take zero ds = refl
+bytes-of-take (suc n) [] = let e : suc n * 2 ≡ suc (suc (n * 2)) = omega arith in rw e
+bytes-of-take (suc n) (d ∷ []) = let e : suc n * 2 ≡ suc (suc (n * 2)) = omega arith in rw e
+bytes-of-take (suc n) (d ∷ e ∷ ds) = let t : suc n * 2 ≡ suc (suc (n * 2)) = omega arith in rw (t, bytes-of-take n ds)
+
+pub bytes-of-drop : (n : ℕ) (ds : List ℕ) → bytesOf (drop (n * 2) ds) ≡ drop n (bytesOf ds)
+unfolding bytesOf
+bytes-of-drop zero ds = refl
+bytes-of-drop (suc n) [] = let e : suc n * 2 ≡ suc (suc (n * 2)) = omega arith in rw e
+bytes-of-drop (suc n) (d ∷ []) = let e : suc n * 2 ≡ suc (suc (n * 2)) = omega arith in rw e
+bytes-of-drop (suc n) (d ∷ e ∷ ds) = let t : suc n * 2 ≡ suc (suc (n * 2)) = omega arith in rw t (bytes-of-drop n ds)
+
 -- reading what was spelled gives the bytes
 pub bytes-hex : (xs : List ℕ) → allBytes xs ≡ true → bytesOf (hexOf xs) ≡ xs
 unfolding hexOf bytesOf allBytes

@@ -11,12 +11,11 @@ use lib.Seq.{length-take-le, drop-append-seam}
 use Rattle.laws.proofs.Split.{by-bool, and-true}
 use Rattle.request.specs.Setup.{fitsOf}
 use Rattle.hex.specs.Hex.{bytesOf, allBytes}
-use Rattle.hex.proofs.Fields.{bytes-are}
 use Rattle.job.specs.Event.{Event, attach, request, fits, inBytes, proper, lineOf, textOf, same}
 use Rattle.job.specs.Text.{firstLine, onto, linesOf, eventOf, wellFormed, badFrom, firstBad, eventsIn, eventsOf}
 use Rattle.job.proofs.Spelling.{spelled}
 use Rattle.job.proofs.FirstLine.{same-eq, first-spelled, lines-first, joined}
-use Rattle.job.proofs.Formed.{fits-long, bytes-append, bytes-take, bytes-drop, event-spelled, formed-spelled}
+use Rattle.job.proofs.Formed.{fits-long, bytes-take, bytes-drop, event-spelled, formed-spelled, event-bytes}
 
 -- the line of an event that fits gives the event back
 module _ (q : List ℕ) (f : fitsOf q ≡ true) (y : allBytes q ≡ true) where
@@ -110,13 +109,6 @@ pub formed-fits : (l : List ℕ) → wellFormed l ≡ true → fits (eventOf l) 
 unfolding wellFormed
 formed-fits l h = and-true (fits (eventOf l)) (same l (lineOf (eventOf l))) h .0
 
-pub event-bytes : (l : List ℕ) → inBytes (eventOf l) ≡ true
-unfolding inBytes eventOf
-event-bytes l =
-    by-bool (eqb (getD l 0 0) 65)
-    (λ e. rw e)
-    (λ e. rw e (bytes-append (bytesOf (take 16 (drop 2 l))) (bytesOf (take (length l - 20) (drop 19 l))) (bytes-are (take 16 (drop 2 l))) (bytes-are (take (length l - 20) (drop 19 l)))))
-
 -- lines none of which is malformed: the first is well formed, and so are the others
 pub good-first : (l : List ℕ) (ls : List (List ℕ)) (k : ℕ) → badFrom (suc k) (l ∷ ls) ≡ 0 → (wellFormed l ≡ true) × (badFrom (suc (suc k)) ls ≡ 0)
 unfolding badFrom
@@ -137,7 +129,7 @@ unfolding proper eventsIn
 lines-proper [] k h = refl
 lines-proper (l ∷ ls) k h =
     let p = good-first l ls k h in
-    rw (formed-fits l (p .0), event-bytes l, lines-proper ls (suc k) (p .1))
+    rw (formed-fits l (p .0), event-bytes l (p .0), lines-proper ls (suc k) (p .1))
 
 pub good-text : (t : List ℕ) → firstBad t ≡ 0 → textOf (eventsOf t) ≡ t
 unfolding firstBad eventsOf

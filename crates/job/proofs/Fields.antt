@@ -1,15 +1,16 @@
 -- The fields of a setup, each from its own digits. Assumes nothing.
-use mathlib.Core.Path.{_≡_, _∙_}
-use mathlib.Core.List.{List}
+use mathlib.Core.Path.{_≡_, ap, _∙_}
+use mathlib.Core.List.{List, [], _∷_}
 use Prim.Native.Nat.{ℕ, _+_, _*_, _/_, _<_}
 use native.Mathlib.Omega.{arith}
-use lib.ListN.{length, getD}
+use lib.ListN.{length, take, drop, getD}
+use lib.Seq.{getD-take, getD-drop}
 use borrow.Author.Tests.{lt-ltb, le-ltb}
 use Rattle.laws.proofs.Split.{by-lt}
 use Rattle.request.specs.Setup.{setupOf, dataLength}
 use Rattle.request.specs.declared.Setup.{Setup}
 use Rattle.hex.specs.Hex.{byteOf, bytesOf}
-use Rattle.hex.proofs.Fields.{byte-of}
+use Rattle.hex.proofs.Fields.{byte-of, bytes-of-take, bytes-of-drop}
 
 -- the byte and the word that the digits from place i on spell
 abbrev pub byteAt : List ℕ → ℕ → ℕ
@@ -22,10 +23,15 @@ module _ (ds : List ℕ) (whole : length ds ≡ 16) where
   spells : (i : ℕ) → i < 8 → byteOf (getD ds (i * 2) 0) (getD ds (i * 2 + 1) 0) ≡ getD (bytesOf ds) i 0
   spells i h = byte-of ds i (let k : i < length ds / 2 = omega arith in k)
 
-  pub setup-fields : (kind code value index size : ℕ) → kind ≡ byteAt ds 0 → code ≡ byteAt ds 2 → value ≡ wordAt ds 4 → index ≡ wordAt ds 8 → size ≡ wordAt ds 12 → _≡_ {A = Setup} (record { kind = kind; code = code; value = value; index = index; length = size }) (setupOf (bytesOf ds))
+  -- the setup whose first bytes one half of the field spells, and the others the other half
+  pub setup-halves : (front back : List ℕ) → front ≡ bytesOf (take 8 ds) → back ≡ bytesOf (take 8 (drop 8 ds)) → setupOf (getD front 0 0 ∷ getD front 1 0 ∷ getD front 2 0 ∷ getD front 3 0 ∷ getD back 0 0 ∷ getD back 1 0 ∷ getD back 2 0 ∷ getD back 3 0 ∷ []) ≡ setupOf (bytesOf ds)
   unfolding setupOf
-  setup-fields kind code value index size k c v x l =
-      rw (k, c, v, x, l, spells 0 (omega arith), spells 1 (omega arith), spells 2 (omega arith), spells 3 (omega arith), spells 4 (omega arith), spells 5 (omega arith), spells 6 (omega arith), spells 7 (omega arith))
+  setup-halves front back a b =
+      let x = bytesOf ds in
+      let f : (i : ℕ) → i < 4 → getD front i 0 ≡ getD x i 0 = λ i h. ap (λ (l : List ℕ). getD l i 0) (a ∙ bytes-of-take 4 ds) ∙ getD-take 4 x i 0 h in
+      let g : (i : ℕ) → i < 4 → getD back i 0 ≡ getD x (4 + i) 0 =
+      λ i h. ap (λ (l : List ℕ). getD l i 0) (b ∙ bytes-of-take 4 (drop 8 ds) ∙ ap (take 4) (bytes-of-drop 4 ds)) ∙ getD-take 4 (drop 4 x) i 0 h ∙ getD-drop 4 x i 0 in
+      rw (f 0 (omega arith), f 1 (omega arith), f 2 (omega arith), f 3 (omega arith), g 0 (omega arith), g 1 (omega arith), g 2 (omega arith), g 3 (omega arith))
 
   -- how much data follow is told by the kind and the length
   pub length-fields : (s : Setup) → s .kind ≡ byteAt ds 0 → s .length ≡ wordAt ds 12 → dataLength s ≡ dataLength (setupOf (bytesOf ds))

@@ -7,12 +7,12 @@ use native.Mathlib.Omega.{arith}
 use lib.Dec.{eqb, ltb, leb}
 use lib.ListN.{length, take, drop, getD, length-append, take-append-drop, List·getD-append}
 use lib.Seq.{length-take-le, take-at, drop-at}
-use borrow.Author.Tests.{eqb-true, leb-true, eq-eqb, ne-eqb, le-leb}
-use Rattle.laws.proofs.Split.{and-true}
+use borrow.Author.Tests.{eqb-true, eqb-false, leb-true, eq-eqb, ne-eqb, le-leb}
+use Rattle.laws.proofs.Split.{by-bool, and-true}
 use Rattle.request.specs.Setup.{setupOf, dataLength, fitsOf}
-use Rattle.hex.specs.Hex.{bytesOf, allBytes}
-use Rattle.hex.proofs.Fields.{bytes-are, bytes-hex}
-use Rattle.job.specs.Event.{request, fits, lineOf, same}
+use Rattle.hex.specs.Hex.{bytesOf, allDigits, allBytes}
+use Rattle.hex.proofs.Fields.{bytes-are, bytes-hex, digits-hex}
+use Rattle.job.specs.Event.{request, fits, lineOf, same, inBytes}
 use Rattle.job.specs.Text.{firstLine, eventOf, wellFormed}
 use Rattle.job.proofs.Spelling.{spelled, Spelled, spelled-facts}
 use Rattle.job.proofs.FirstLine.{same-refl, same-eq, first-rest, first-kind, first-spelled}
@@ -131,26 +131,64 @@ event-request : (l : List ℕ) → (getD l 0 0 ≡ 65 → ⊥) → eventOf l ≡
 unfolding eventOf
 event-request l n = rw (ne-eqb (getD l 0 0) 65 n)
 
+-- a well-formed line of another kind than `A`: its fields are digits, and it is the line of the request that they spell
+module _ (l : List ℕ) (formed : wellFormed l ≡ true) (other : getD l 0 0 ≡ 65 → ⊥) where
+  abbrev asked : List ℕ
+  asked = bytesOf (take 16 (drop 2 l)) ++ bytesOf (take (length l - 20) (drop 19 l))
+
+  asked-fits : fitsOf asked ≡ true
+  unfolding wellFormed fits
+  asked-fits = ap fits (sym (event-request l other)) ∙ and-true (fits (eventOf l)) (same l (lineOf (eventOf l))) formed .0
+
+  asked-line : l ≡ spelled (take 8 asked) (drop 8 asked) []
+  unfolding wellFormed lineOf
+  asked-line = same-eq l (lineOf (eventOf l)) (and-true (fits (eventOf l)) (same l (lineOf (eventOf l))) formed .1) ∙ ap lineOf (event-request l other)
+
+  asked-whole : length (take 8 asked) ≡ 8
+  asked-whole = length-take-le 8 asked (fits-long asked asked-fits)
+
+  asked-bytes : allBytes asked ≡ true
+  asked-bytes =
+      let a = take 8 asked in
+      let b = drop 8 asked in
+      let x = spelled-facts a b [] asked-whole in
+      let z = x .size in
+      let k : length (spelled a b []) - 20 ≡ length b * 2 = omega arith in
+      let setup : allDigits (take 16 (drop 2 l)) ≡ true = ap (λ (u : List ℕ). allDigits (take 16 (drop 2 u))) asked-line ∙ ap allDigits (x .setup) ∙ digits-hex a in
+      let body : allDigits (take (length l - 20) (drop 19 l)) ≡ true =
+      ap (λ (u : List ℕ). allDigits (take (length u - 20) (drop 19 u))) asked-line ∙ ap (λ (n : ℕ). allDigits (take n (drop 19 (spelled a b [])))) k ∙ ap allDigits (x .body) ∙ digits-hex b in
+      bytes-append (bytesOf (take 16 (drop 2 l))) (bytesOf (take (length l - 20) (drop 19 l))) (bytes-are (take 16 (drop 2 l)) setup) (bytes-are (take (length l - 20) (drop 19 l)) body)
+
+pub event-bytes : (l : List ℕ) → wellFormed l ≡ true → inBytes (eventOf l) ≡ true
+unfolding inBytes eventOf
+event-bytes l h =
+    by-bool (eqb (getD l 0 0) 65)
+    (λ e. rw e)
+    (λ e. rw e (asked-bytes l h (eqb-false (getD l 0 0) 65 e)))
+
 pub asks : (u : List ℕ) → wellFormed (firstLine u) ≡ true → (getD u 0 0 ≡ 65 → ⊥) → Asks u
-unfolding wellFormed fits lineOf
 asks u h n =
     let l = firstLine u in
-    let q = bytesOf (take 16 (drop 2 l)) ++ bytesOf (take (length l - 20) (drop 19 l)) in
-    let e : eventOf l ≡ request q = event-request l (λ k. n (sym (first-kind u) ∙ k)) in
-    let p = and-true (fits (eventOf l)) (same l (lineOf (eventOf l))) h in
-    let f : fitsOf q ≡ true = ap fits (sym e) ∙ p .0 in
-    let s : l ≡ spelled (take 8 q) (drop 8 q) [] = same-eq l (lineOf (eventOf l)) (p .1) ∙ ap lineOf e in
-    let w : 8 ≤ length q = fits-long q f in
-    let t : take 8 q ++ drop 8 q ≡ q = take-append-drop 8 q in
-    let y : allBytes q ≡ true = bytes-append (bytesOf (take 16 (drop 2 l))) (bytesOf (take (length l - 20) (drop 19 l))) (bytes-are (take 16 (drop 2 l))) (bytes-are (take (length l - 20) (drop 19 l))) in
+    let o : getD l 0 0 ≡ 65 → ⊥ = λ k. n (sym (first-kind u) ∙ k) in
+    let q = asked l h o in
+    let y : allBytes q ≡ true = asked-bytes l h o in
     let r = drop (length l) u in
     record {
       a = take 8 q;
       b = drop 8 q;
       r = r;
-      whole = length-take-le 8 q w;
-      fit = ap fitsOf t ∙ f;
+      whole = asked-whole l h o;
+      fit = ap fitsOf (take-append-drop 8 q) ∙ asked-fits l h o;
       inA = bytes-take 8 q y;
       inB = bytes-drop 8 q y;
-      is = sym (first-rest u) ∙ ap (λ (x : List ℕ). x ++ r) s ∙ simp append-assoc;
+      is = sym (first-rest u) ∙ ap (λ (x : List ℕ). x ++ r) (asked-line l h o) ∙ simp append-assoc;
     }
+
+-- its fields are digits
+pub asks-digits : {u : List ℕ} → (x : Asks u) → allDigits (take 16 (drop 2 u)) ≡ true
+asks-digits x = ap allDigits (asks-facts x .setup) ∙ digits-hex (x .a)
+
+pub asks-body : {u : List ℕ} → (x : Asks u) (end : ℕ) → end ≡ 19 + length (x .b) * 2 → allDigits (take (end - 19) (drop 19 u)) ≡ true
+asks-body {u} x end e =
+    let k : end - 19 ≡ length (x .b) * 2 = omega arith in
+    ap (λ (n : ℕ). allDigits (take n (drop 19 u))) k ∙ ap allDigits (asks-facts x .body) ∙ digits-hex (x .b)

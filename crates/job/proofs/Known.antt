@@ -1,21 +1,21 @@
 -- The event at a place where the text is known to be well formed. Assumes nothing.
-use mathlib.Core.Path.{_≡_, ap, ap₂, _∙_, sym}
+use mathlib.Core.Path.{_≡_, ap, _∙_, sym}
 use mathlib.Core.Bool.{true}
 use mathlib.Core.List.{List}
 use Prim.Native.Nat.{ℕ, _+_, _-_, _*_, _≤_, _<_}
 use native.Mathlib.Omega.{arith}
 use lib.ListN.{length, take, drop, getD, length-drop}
-use lib.Seq.{drop-drop, getD-drop}
+use lib.Seq.{getD-drop}
 use Rattle.laws.proofs.Bytes.{rest-is}
 use Rattle.request.specs.Setup.{setupOf, dataLength}
 use Rattle.request.specs.declared.Setup.{Setup}
-use Rattle.hex.specs.Hex.{bytesOf}
+use Rattle.hex.specs.Hex.{allDigits, bytesOf}
 use Rattle.job.specs.declared.Item.the-variants as item
 use Rattle.job.specs.Text.{firstLine, wellFormed, lineLength}
 use Rattle.job.specs.Calls.{itemOf}
-use Rattle.job.proofs.Formed.{Asks, asks, asks-facts, asks-length, asks-setup, asks-data}
+use Rattle.job.proofs.Formed.{Asks, asks, asks-facts, asks-length, asks-setup, asks-digits, asks-data}
 use Rattle.job.proofs.LineLength.{length-good, attaches}
-use Rattle.job.proofs.Walking.{item-attach, item-request}
+use Rattle.job.proofs.Walking.{setup-here, item-attach, item-request}
 
 module _ (t : List ℕ) (at : ℕ) (more : at < length t) (formed : wellFormed (firstLine (drop at t)) ≡ true) where
   measured : length (firstLine (drop at t)) ≡ lineLength (take (length t - at) (drop at t))
@@ -41,13 +41,14 @@ module _ (t : List ℕ) (at : ℕ) (more : at < length t) (formed : wellFormed (
         let d : length (drop at t) ≡ length t - at = length-drop at t in
         omega arith
 
+    pub known-digits : allDigits (take (at + 18 - (at + 2)) (drop (at + 2) t)) ≡ true
+    known-digits = ap allDigits (setup-here t at) ∙ asks-digits line-asks
+
     -- n bytes of data are asked for by the setup s
     module _ (s : Setup) (n : ℕ) (reads : s ≡ setupOf (bytesOf (take (at + 18 - (at + 2)) (drop (at + 2) t)))) (count : n ≡ dataLength s) where
       counted : n ≡ length (line-asks .b)
       counted =
-          let k : at + 18 - (at + 2) ≡ 16 = omega arith in
-          let f : take (at + 18 - (at + 2)) (drop (at + 2) t) ≡ take 16 (drop 2 (drop at t)) = ap₂ take k (sym (drop-drop 2 at t)) in
-          count ∙ ap dataLength (reads ∙ ap (λ (d : List ℕ). setupOf (bytesOf d)) f ∙ ap setupOf (asks-setup line-asks)) ∙ asks-data line-asks
+          count ∙ ap dataLength (reads ∙ ap (λ (d : List ℕ). setupOf (bytesOf d)) (setup-here t at) ∙ ap setupOf (asks-setup line-asks)) ∙ asks-data line-asks
 
       pub known-room : at + 20 + n * 2 ≤ length t
       known-room =

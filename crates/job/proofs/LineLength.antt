@@ -138,6 +138,7 @@ module _ (u : List ℕ) (k : getD u 0 0 ≡ 81) where
         let la₈ : 8 ≤ length a = omega arith in
         let sz : length (a ++ b) ≡ length a + length b = length-append a b in
         let want : dataLength (setupOf (a ++ b)) ≡ dataLength (setupOf a) = ap dataLength (setup-front a b la₈) in
+        let body : allDigits (take n (drop 19 u)) ≡ true = ap (λ (i : ℕ). allDigits (take i (drop 19 u))) (sym e) ∙ d in
         let x : Asks u =
         record {
           a = a;
@@ -145,9 +146,9 @@ module _ (u : List ℕ) (k : getD u 0 0 ≡ 81) where
           r = drop (20 + n) u;
           whole = la;
           fit = fits-if (a ++ b) (omega arith) (omega arith);
-          inA = bytes-are (take 16 (drop 2 u));
-          inB = bytes-are (take n (drop 19 u));
-          is = is-spelled u n g k f s (ap (λ (i : ℕ). getD u i 0) (sym ends) ∙ t) p (ap (λ (i : ℕ). allDigits (take i (drop 19 u))) (sym e) ∙ d) even;
+          inA = bytes-are (take 16 (drop 2 u)) p;
+          inB = bytes-are (take n (drop 19 u)) body;
+          is = is-spelled u n g k f s (ap (λ (i : ℕ). getD u i 0) (sym ends) ∙ t) p body even;
         } in
         let q : 20 + length b * 2 ≡ end + 1 = omega arith in
         sym (length-good u (asks-formed x) ∙ asks-length x ∙ q)

@@ -9,8 +9,8 @@ use lib.Seq.{drop-drop, drop-append-seam, length-take-le}
 use borrow.Author.Tests.{lt-leb, le-leb}
 use Rattle.request.specs.Setup.{setupOf, dataLength}
 use Rattle.request.specs.declared.Setup.{Setup}
-use Rattle.hex.specs.Hex.{bytesOf}
-use Rattle.hex.proofs.Fields.{bytes-hex}
+use Rattle.hex.specs.Hex.{hexOf, allDigits, bytesOf}
+use Rattle.hex.proofs.Fields.{bytes-hex, digits-hex}
 use Rattle.job.specs.declared.Item.the-variants as item
 use Rattle.job.specs.Event.{Event, attach, request, fits, inBytes, proper, lineOf, textOf}
 use Rattle.job.specs.Text.{firstLine, wellFormed, firstBad, eventsOf}
@@ -56,8 +56,8 @@ module _ (t : List ℕ) (at : ℕ) (e : Event) (es : List Event) (is : drop at t
   next-here = sym (drop-drop (length (lineOf e)) at t) ∙ ap (drop (length (lineOf e))) goes-on ∙ drop-append-seam (lineOf e) (textOf es)
 
 -- the data of a request stand as digits from 19 bytes behind the place of its line
-pub data-here : (t : List ℕ) (at : ℕ) (q : List ℕ) (es : List Event) → drop at t ≡ textOf (request q ∷ es) → proper (request q ∷ es) ≡ true → bytesOf (take (dataLength (setupOf q) * 2) (drop (at + 19) t)) ≡ drop 8 q
-unfolding textOf lineOf fits inBytes
+data-here : (t : List ℕ) (at : ℕ) (q : List ℕ) (es : List Event) → drop at t ≡ textOf (request q ∷ es) → proper (request q ∷ es) ≡ true → take (dataLength (setupOf q) * 2) (drop (at + 19) t) ≡ hexOf (drop 8 q)
+unfolding textOf lineOf fits
 data-here t at q es is ok =
     let p = proper-parts (request q) es ok in
     let h : 8 ≤ length q = fits-long q (p .0) in
@@ -66,7 +66,7 @@ data-here t at q es is ok =
     let n : dataLength (setupOf q) * 2 ≡ length (drop 8 q) * 2 = let d = fits-data q (p .0) in let k : length (drop 8 q) ≡ length q - 8 = length-drop 8 q in omega arith in
     let j : spelled (take 8 q) (drop 8 q) [] ++ textOf es ≡ spelled (take 8 q) (drop 8 q) (textOf es) = simp append-assoc in
     let s : drop (at + 19) t ≡ drop 19 (spelled (take 8 q) (drop 8 q) (textOf es)) = sym (drop-drop 19 at t) ∙ ap (drop 19) (is ∙ j) in
-    ap₂ (λ (k : ℕ) (x : List ℕ). bytesOf (take k x)) n s ∙ ap bytesOf (f .body) ∙ bytes-hex (drop 8 q) (bytes-drop 8 q (p .1))
+    ap₂ (λ (k : ℕ) (x : List ℕ). take k x) n s ∙ f .body
 
 -- how long a request's line is: LF stands behind its data
 line-ends : (q : List ℕ) → fits (request q) ≡ true → length (lineOf (request q)) ≡ 19 + dataLength (setupOf q) * 2 + 1
@@ -147,12 +147,13 @@ pub record Requested (t : List ℕ) (at : ℕ) (es : List Event) (s : Setup) (da
   pub rest : List Event
   pub events : es ≡ request bytes ∷ rest
   pub asked : s ≡ setupOf bytes
+  pub data-digits : allDigits (take (dataLength s * 2) (drop data-at t)) ≡ true
   pub data-bytes : bytesOf (take (dataLength s * 2) (drop data-at t)) ≡ drop 8 bytes
   pub ends : next ≡ data-at + dataLength s * 2 + 1
   pub onward : Beyond t at rest next
 
 pub request-tells : (t : List ℕ) (at : ℕ) (s : Setup) (data-at next : ℕ) (es : List Event) → drop at t ≡ textOf es → proper es ≡ true → itemOf t at ≡ item.Request s data-at next → Requested t at es s data-at next
-unfolding itemFor
+unfolding itemFor inBytes
 request-tells t at s d next [] is ok i = let h = item-last t at is in let z : _≡_ {A = ℕ} 0 1 = cc in absurd (omega arith)
 request-tells t at s d next (attach ∷ es) is ok i = let h = item-here t at attach es is ok in let z : _≡_ {A = ℕ} 0 1 = cc in absurd (omega arith)
 request-tells t at s d next (request q ∷ es) is ok i =
@@ -160,12 +161,14 @@ request-tells t at s d next (request q ∷ es) is ok i =
     let n : at + length (lineOf (request q)) ≡ next = cc in
     let a : s ≡ setupOf q = cc in
     let m : at + 19 ≡ d = cc in
+    let x : take (dataLength s * 2) (drop d t) ≡ hexOf (drop 8 q) = ap₂ (λ (k : ℕ) (j : ℕ). take (k * 2) (drop j t)) (ap dataLength a) (sym m) ∙ data-here t at q es is ok in
     record {
       bytes = q;
       rest = es;
       events = refl;
       asked = a;
-      data-bytes = ap₂ (λ (k : ℕ) (j : ℕ). bytesOf (take (k * 2) (drop j t))) (ap dataLength a) (sym m) ∙ data-here t at q es is ok;
+      data-digits = ap allDigits x ∙ digits-hex (drop 8 q);
+      data-bytes = ap bytesOf x ∙ bytes-hex (drop 8 q) (bytes-drop 8 q (proper-parts (request q) es ok .1));
       ends = let k = line-ends q (proper-parts (request q) es ok .0) in let j : dataLength s ≡ dataLength (setupOf q) = ap dataLength a in let h : next ≡ d + dataLength s * 2 + 1 = omega arith in h;
       onward = beyond-here t at (request q) es next is ok n;
     }

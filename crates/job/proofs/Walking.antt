@@ -12,7 +12,7 @@ use Rattle.laws.proofs.Bytes.{rest-is}
 use Rattle.laws.proofs.Split.{by-bool, by-eq, by-lt}
 use Rattle.request.specs.Setup.{setupOf}
 use Rattle.request.specs.declared.Setup.{Setup}
-use Rattle.hex.specs.Hex.{bytesOf}
+use Rattle.hex.specs.Hex.{allDigits, bytesOf}
 use Rattle.refusal.specs.declared.Refusal.the-variants.{Text, Line}
 use Rattle.job.specs.declared.Done.the-variants.{Bytes, Refused}
 use Rattle.job.specs.declared.Item.the-variants as item
@@ -20,7 +20,7 @@ use Rattle.job.specs.Event.{Event, attach, request, packOf, packedOf}
 use Rattle.job.specs.Text.{limit, firstLine, linesOf, eventOf, wellFormed, lineLength, packedSize, badFrom, firstBad, eventsIn, eventsOf}
 use Rattle.job.specs.Calls.{measureOf, itemFor, itemOf}
 use Rattle.job.proofs.FirstLine.{first-some, lines-first}
-use Rattle.job.proofs.Formed.{Asks, asks, asks-event, asks-length, asks-setup, setup-front}
+use Rattle.job.proofs.Formed.{Asks, asks, asks-event, asks-length, asks-setup, asks-digits, setup-front}
 use Rattle.job.proofs.LineLength.{length-good, length-bad, Attaches, attaches}
 
 -- a length that is not 0 is that of a well-formed line
@@ -33,6 +33,10 @@ malformed-if u s z =
     by-bool (wellFormed (firstLine u))
     (λ h. let l : lineLength u ≡ length (firstLine u) = length-good u h in let w = first-some u s in absurd (omega arith))
     (λ h. h)
+
+-- the digits of a setup, by their places in the text and in the line
+pub setup-here : (t : List ℕ) (at : ℕ) → take (at + 18 - (at + 2)) (drop (at + 2) t) ≡ take 16 (drop 2 (drop at t))
+setup-here t at = let n : at + 18 - (at + 2) ≡ 16 = omega arith in ap₂ take n (sym (drop-drop 2 at t))
 
 -- by its length a line is of `A` or of `Q`
 pub short-attaches : (u : List ℕ) → wellFormed (firstLine u) ≡ true → length (firstLine u) < 20 → Attaches u
@@ -125,11 +129,14 @@ module _ (t : List ℕ) (at line : ℕ) (more : at < length t) (is : line ≡ li
     item-request s h e =
         let l : 20 ≤ length (firstLine (drop at t)) = let k = line-is in omega arith in
         let x = long-asks (drop at t) formed l in
-        let n : at + 18 - (at + 2) ≡ 16 = omega arith in
         let w : 8 ≤ length (x .a) = let k = x .whole in omega arith in
-        let f : take (at + 18 - (at + 2)) (drop (at + 2) t) ≡ take 16 (drop 2 (drop at t)) = ap₂ take n (sym (drop-drop 2 at t)) in
-        let q : s ≡ setupOf (x .a ++ x .b) = e ∙ ap (λ (d : List ℕ). setupOf (bytesOf d)) f ∙ ap setupOf (asks-setup x) ∙ sym (setup-front (x .a) (x .b) w) in
+        let q : s ≡ setupOf (x .a ++ x .b) = e ∙ ap (λ (d : List ℕ). setupOf (bytesOf d)) (setup-here t at) ∙ ap setupOf (asks-setup x) ∙ sym (setup-front (x .a) (x .b) w) in
         ap (λ (z : Setup). item.Request z (at + 19) (at + line)) q ∙ item-is (request (x .a ++ x .b)) (asks-event x)
+
+    pub item-digits : 20 ≤ line → allDigits (take (at + 18 - (at + 2)) (drop (at + 2) t)) ≡ true
+    item-digits h =
+        let l : 20 ≤ length (firstLine (drop at t)) = let k = line-is in omega arith in
+        ap allDigits (setup-here t at) ∙ asks-digits (long-asks (drop at t) formed l)
 
 pub item-end : (t : List ℕ) (at : ℕ) → length t ≤ at → item.End ≡ itemOf t at
 unfolding itemOf

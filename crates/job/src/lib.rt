@@ -7,7 +7,7 @@ ghost use Prim.Native.Nat.{_+_, _*_, _≤_, _<_};
 ghost use lib.ListN.{length, take, drop, getD};
 ghost use Rattle.laws.specs.Bytes.{put};
 ghost use Rattle.request.specs.Setup.{setupOf, dataLength};
-ghost use Rattle.hex.specs.Hex.{byteOf, bytesOf};
+ghost use Rattle.hex.specs.Hex.{valueOf, byteOf, allDigits, bytesOf};
 ghost use Rattle.job.specs.Event.{request, lineOf, textOf, packOf, packedOf};
 ghost use Rattle.job.specs.Text.{limit, firstLine, eventOf, wellFormed, lineLength, packedSize, firstBad, eventsOf};
 ghost use Rattle.job.specs.Packed.{pieceLength, lineSize, capped, eventIn, wellPacked, packs, unpacked};
@@ -52,28 +52,35 @@ const HEAD: usize = 9;
 
 // The two bytes that four digits spell, low byte first.
 fn word(a: u8, b: u8, c: u8, d: u8) -> u16
+    requires { ⌜ (valueOf a < 16) × (valueOf b < 16) × (valueOf c < 16) × (valueOf d < 16) ⌝ }
     ensures { λ r. ⌜ r ≡ byteOf a b + byteOf c d * 256 ⌝ }
 {
     hex::byte(a, b) as u16 + hex::byte(c, d) as u16 * 256
 }
 
-// The setup that 16 digits spell, each field from its own digits: a caller that uses some of them pays for those.
+// The setup that 16 digits spell.
 fn setup(field: &[u8]) -> Setup
-    requires { ⌜ length (now field) ≡ 16 ⌝ }
+    requires { ⌜ (length (now field) ≡ 16) × (allDigits (now field) ≡ true) ⌝ }
     ensures { λ r. ⌜ r ≡ setupOf (bytesOf (now (field .entry))) ⌝ }
 {
-    Setup {
-        kind: hex::byte(field[0], field[1]),
-        code: hex::byte(field[2], field[3]),
-        value: word(field[4], field[5], field[6], field[7]),
-        index: word(field[8], field[9], field[10], field[11]),
-        length: word(field[12], field[13], field[14], field[15]),
-    }
+    let front = hex::four(&field[0..8]);
+    let back = hex::four(&field[8..16]);
+    let bytes = [
+        front[0],
+        front[1],
+        front[2],
+        front[3],
+        back[0],
+        back[1],
+        back[2],
+        back[3],
+    ];
+    Setup::of(&bytes)
 }
 
 // How many bytes of data follow the setup that 16 digits spell. The digits of the length are read only where the kind takes data.
 fn data_length(field: &[u8]) -> usize
-    requires { ⌜ length (now field) ≡ 16 ⌝ }
+    requires { ⌜ (length (now field) ≡ 16) × (allDigits (now field) ≡ true) ⌝ }
     ensures { λ r. ⌜ r ≡ dataLength (setupOf (bytesOf (now (field .entry)))) ⌝ }
 {
     let kind = hex::byte(field[0], field[1]);

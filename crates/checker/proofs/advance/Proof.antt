@@ -1,7 +1,7 @@
 -- `checker::advance` meets its contract. Assumes nothing.
 use mathlib.Core.Path.{refl, _∙_, sym}
 use native.Mathlib.Omega.{arith}
-use Rattle.checker.proofs.Advancing.{ahead-formed, not-at-end, never-bad, attach-advanced, data-within, data-digits, request-fallen, request-further}
+use Rattle.checker.proofs.Advancing.{ahead-formed, not-at-end, never-bad, attach-advanced, data-within, data-long, data-digits, request-fallen, request-further}
 use borrow.Author.Needs.{needs}
 use Rattle.checker.proofs.advance.Statement.{statement}
 use Rattle.checker.proofs.advance.Tie as tie
@@ -57,7 +57,8 @@ request-requires c κs =
     let t = c .before .before .before in
     let i = t .before .before in
     let p = i .before .before .before .pre in
-    (p .0, p .2, data-digits _ _ (p .3) _ _ _ (sym (i .event-at .ensures) ∙ t .item2 .given .1))
+    let e = sym (i .event-at .ensures) ∙ t .item2 .given .1 in
+    (p .0, p .2, data-long _ _ (p .3) _ _ _ e, data-digits _ _ (p .3) _ _ _ e)
 
 returns-2 : tie.Need-returns-2
 returns-2 c =

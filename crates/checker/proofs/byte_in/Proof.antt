@@ -1,6 +1,7 @@
 -- `checker::byte_in` meets its contract. Assumes nothing.
 use Rattle.checker.proofs.Answers.{field-past}
-use Rattle.hex.proofs.Fields.{byte-of}
+use Rattle.hex.proofs.Fields.{byte-of, digit-at}
+use native.Mathlib.Omega.{arith}
 use mathlib.Core.Path.{_∙_, sym}
 use borrow.Author.Needs.{needs}
 use Rattle.checker.proofs.byte_in.Statement.{statement}
@@ -25,7 +26,10 @@ shared-slice-read-byte-2 : tie.Need-shared-slice-read-byte-2
 shared-slice-read-byte-2 c = search needs
 
 byte-requires : tie.Need-byte-requires
-byte-requires c κs = search needs
+byte-requires c κs =
+    let t = c .before .before in
+    let s = t .before .before in
+    (digit-at _ _ (s .pre .1) (omega (arith, t .if1 .left)), digit-at _ _ (s .pre .1) (omega (arith, t .if1 .left)))
 
 returns-2 : tie.Need-returns-2
 returns-2 c = c .byte .ensures ∙ byte-of _ _ (c .before .before .before .if1 .left)

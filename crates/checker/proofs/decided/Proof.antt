@@ -37,7 +37,7 @@ decode-requires c κs =
     let d = t .before .before in
     let s = d .before .before .before .before in
     let short = decided-bounded _ _ _ _ _ (d .decide .ensures) (t .decision2 .given .1) in
-    omega (arith, c .block-from .ensures, s .pre .0, s .pre .1, short, data-at-most (s .args .setup))
+    (omega (arith, c .block-from .ensures, s .pre .0, s .pre .1, short, data-at-most (s .args .setup)), s .pre .2)
 
 enum-known-decision-3 : tie.Need-enum-known-decision-3
 enum-known-decision-3 c = search needs
@@ -101,7 +101,7 @@ returns-7 c =
 returns-8 : tie.Need-returns-8
 returns-8 c =
     let d = c .before .before in
-    absurd (true≢false (sym (ap isStatus (sym (d .decide .ensures) ∙ c .enum-told5 .given .1)) ∙ d .before .before .before .before .pre .2 _))
+    absurd (true≢false (sym (ap isStatus (sym (d .decide .ensures) ∙ c .enum-told5 .given .1)) ∙ d .before .before .before .before .pre .3 _))
 
 pub decided-spec : {M : Type 1} → statement M
 decided-spec =

@@ -1,5 +1,10 @@
 -- `job::data_length` meets its contract. Assumes nothing.
 use mathlib.Core.Path.{ap, _∙_, sym}
+use Prim.Native.Nat.{ℕ, _<_}
+use native.Mathlib.Omega.{arith}
+use lib.ListN.{getD}
+use Rattle.hex.specs.Hex.{valueOf}
+use Rattle.hex.proofs.Fields.{digit-at}
 use Rattle.request.specs.declared.Setup.{Setup}
 use Rattle.job.proofs.Fields.{length-fields, length-none}
 use borrow.Author.Needs.{needs}
@@ -13,7 +18,11 @@ shared-slice-read-byte-2 : tie.Need-shared-slice-read-byte-2
 shared-slice-read-byte-2 c = search needs
 
 byte-requires : tie.Need-byte-requires
-byte-requires c κs = search needs
+byte-requires c κs =
+    let s = c .before .before .before in
+    let w = s .pre .0 in
+    let d : (i : ℕ) → i < 16 → valueOf (getD (s .args .field .now) i 0) < 16 = λ i h. digit-at _ i (s .pre .1) (omega (arith, w)) in
+    (d 0 (omega arith), d 1 (omega arith))
 
 asking-requires : tie.Need-asking-requires
 asking-requires c κs = search needs
@@ -26,7 +35,7 @@ returns c =
     let d = c .before in
     let a = d .before in
     let b = a .before in
-    length-none _ (b .before .before .before .before .pre) _ (ap (λ (x : Setup). x .kind) (a .asking .ensures) ∙ b .byte .ensures) (ap (λ (x : Setup). x .length) (a .asking .ensures)) (sym (d .data-length .ensures) ∙ c .if1 .taken)
+    length-none _ (b .before .before .before .before .pre .0) _ (ap (λ (x : Setup). x .kind) (a .asking .ensures) ∙ b .byte .ensures) (ap (λ (x : Setup). x .length) (a .asking .ensures)) (sym (d .data-length .ensures) ∙ c .if1 .taken)
 
 shared-slice-read-word : tie.Need-shared-slice-read-word
 shared-slice-read-word c = search needs
@@ -41,7 +50,11 @@ shared-slice-read-word-4 : tie.Need-shared-slice-read-word-4
 shared-slice-read-word-4 c = search needs
 
 word-requires : tie.Need-word-requires
-word-requires c κs = search needs
+word-requires c κs =
+    let s = c .before .before .before .before .before .before .before .before .before .before .before in
+    let w = s .pre .0 in
+    let d : (i : ℕ) → i < 16 → valueOf (getD (s .args .field .now) i 0) < 16 = λ i h. digit-at _ i (s .pre .1) (omega (arith, w)) in
+    (d 12 (omega arith), d 13 (omega arith), d 14 (omega arith), d 15 (omega arith))
 
 asking-requires-2 : tie.Need-asking-requires-2
 asking-requires-2 c κs = search needs
@@ -54,7 +67,7 @@ returns-2 c =
     let a = c .before in
     let w = a .before in
     let b = w .before .before .before .before .before .before .before .before in
-    c .data-length2 .ensures ∙ length-fields _ (b .before .before .before .before .pre) _ (ap (λ (x : Setup). x .kind) (a .asking2 .ensures) ∙ b .byte .ensures) (ap (λ (x : Setup). x .length) (a .asking2 .ensures) ∙ w .word .ensures)
+    c .data-length2 .ensures ∙ length-fields _ (b .before .before .before .before .pre .0) _ (ap (λ (x : Setup). x .kind) (a .asking2 .ensures) ∙ b .byte .ensures) (ap (λ (x : Setup). x .length) (a .asking2 .ensures) ∙ w .word .ensures)
 
 pub data-length-spec : {M : Type 1} → statement M
 data-length-spec =

@@ -2,7 +2,7 @@
 use native.Mathlib.Omega.{arith}
 use Prim.Native.Nat.{_+_, _*_, _≤_}
 use lib.ListN.{length}
-use Rattle.job.proofs.Known.{known-attach, known-setup, known-room, known-request}
+use Rattle.job.proofs.Known.{known-attach, known-setup, known-digits, known-room, known-request}
 use borrow.Author.Needs.{needs}
 use Rattle.job.proofs.event_at.Statement.{statement}
 use Rattle.job.proofs.event_at.Tie as tie
@@ -39,7 +39,10 @@ part-setup-end : tie.Need-part-setup-end
 part-setup-end c = let s = c .before .before .before in known-setup _ _ (s .pre .0) (s .pre .1) (c .if1 .left)
 
 setup-requires : tie.Need-setup-requires
-setup-requires c κs = search needs
+setup-requires c κs =
+    let t = c .before in
+    let s = t .before .before .before in
+    search (needs, known-digits _ _ (s .pre .0) (s .pre .1) (t .if1 .left))
 
 add-data : tie.Need-add-data
 add-data c = search needs

@@ -1,5 +1,5 @@
 -- `job::item_at` meets its contract. Assumes nothing.
-use Rattle.job.proofs.Walking.{item-end, item-bad, item-attach, item-request}
+use Rattle.job.proofs.Walking.{item-end, item-bad, item-attach, item-request, item-digits}
 use borrow.Author.Needs.{needs}
 use Rattle.job.proofs.item_at.Statement.{statement}
 use Rattle.job.proofs.item_at.Tie as tie
@@ -44,7 +44,10 @@ part-setup-end : tie.Need-part-setup-end
 part-setup-end c = search needs
 
 setup-requires : tie.Need-setup-requires
-setup-requires c κs = search needs
+setup-requires c κs =
+    let l = c .before .before .before in
+    let s = l .before .before .before .before in
+    search (needs, item-digits (s .args .text .now) (s .args .at) _ (l .before .before .if1 .left) (l .line-length .ensures .0) (c .before .before .if2 .left) (c .before .if3 .left))
 
 add-t6 : tie.Need-add-t6
 add-t6 c = search needs

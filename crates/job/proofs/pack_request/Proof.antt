@@ -1,7 +1,7 @@
 -- `job::pack_request` meets its contract. Assumes nothing.
 use native.Mathlib.Omega.{arith}
 use Rattle.job.proofs.Packing.{asks-room, count-is, request-packed}
-use Rattle.job.proofs.Formed.{Asks, asks}
+use Rattle.job.proofs.Formed.{Asks, asks, asks-digits, asks-body}
 use Rattle.request.specs.Setup.{dataLength}
 use lib.ListN.{length, length-set}
 use Prim.Native.Nat.{_+_, _*_, _≤_}
@@ -35,7 +35,10 @@ add-decode : tie.Need-add-decode
 add-decode c = search needs
 
 decode-requires : tie.Need-decode-requires
-decode-requires c κs = let r = room (c .before .before .before .before) in simp length-set (omega arith)
+decode-requires c κs =
+    let s = c .before .before .before .before in
+    let r = room s in
+    (simp length-set (omega arith), asks-digits (line s))
 
 add-of : tie.Need-add-of
 add-of c = search needs
@@ -81,10 +84,11 @@ add-decode-2 c = search needs
 
 decode-requires-2 : tie.Need-decode-requires-2
 decode-requires-2 c κs =
-    let r = room (c .before .before .before .before .before .before .before .before .before .before .before .before .before) in
+    let s = c .before .before .before .before .before .before .before .before .before .before .before .before .before in
+    let r = room s in
     let n = count (c .before .before) in
     let k = simp length-set at (c .before .before .before .before .before .before .before .before .decode .kept) in
-    omega arith
+    (omega arith, asks-body (line s) _ (ap (λ n. 19 + n * 2) n))
 
 add-result : tie.Need-add-result
 add-result c = let r = room (c .before .before .before .before .before .before .before .before .before .before .before .before .before .before .before .before) in let n = count (c .before .before .before .before .before) in omega arith

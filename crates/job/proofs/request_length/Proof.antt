@@ -53,7 +53,7 @@ part-data-length-end : tie.Need-part-data-length-end
 part-data-length-end c = search needs
 
 data-length-requires : tie.Need-data-length-requires
-data-length-requires c κs = search needs
+data-length-requires c κs = search (needs, sym (c .before .before .digits .ensures) ∙ not-false _ (c .before .if4 .left))
 
 sub-if5 : tie.Need-sub-if5
 sub-if5 c = search needs

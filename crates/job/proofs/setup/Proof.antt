@@ -1,104 +1,98 @@
 -- `job::setup` meets its contract. Assumes nothing.
-use Rattle.job.proofs.Fields.{setup-fields}
+use mathlib.Core.Path.{_∙_}
+use native.Mathlib.Omega.{arith}
+use lib.ListN.{length-take, length-drop}
+use Rattle.hex.proofs.Fields.{digits-take, digits-drop}
+use Rattle.job.proofs.Fields.{setup-halves}
 use borrow.Author.Needs.{needs}
 use Rattle.job.proofs.setup.Statement.{statement}
 use Rattle.job.proofs.setup.Tie as tie
 
-shared-slice-read-byte : tie.Need-shared-slice-read-byte
-shared-slice-read-byte c = search needs
+sub-four : tie.Need-sub-four
+sub-four c = search needs
 
-shared-slice-read-byte-2 : tie.Need-shared-slice-read-byte-2
-shared-slice-read-byte-2 c = search needs
+part-four-start : tie.Need-part-four-start
+part-four-start c = search needs
 
-byte-requires : tie.Need-byte-requires
-byte-requires c κs = search needs
+part-four-end : tie.Need-part-four-end
+part-four-end c = search needs
 
-shared-slice-read-byte-3 : tie.Need-shared-slice-read-byte-3
-shared-slice-read-byte-3 c = search needs
+four-requires : tie.Need-four-requires
+four-requires c κs =
+    let s = c .before .before in
+    (simp length-take (omega (arith, s .pre .0)), digits-take 8 _ (s .pre .1))
 
-shared-slice-read-byte-4 : tie.Need-shared-slice-read-byte-4
-shared-slice-read-byte-4 c = search needs
+sub-four-2 : tie.Need-sub-four-2
+sub-four-2 c = search needs
 
-byte-requires-2 : tie.Need-byte-requires-2
-byte-requires-2 c κs = search needs
+part-four-start-2 : tie.Need-part-four-start-2
+part-four-start-2 c = search needs
 
-shared-slice-read-word : tie.Need-shared-slice-read-word
-shared-slice-read-word c = search needs
+part-four-end-2 : tie.Need-part-four-end-2
+part-four-end-2 c = search needs
 
-shared-slice-read-word-2 : tie.Need-shared-slice-read-word-2
-shared-slice-read-word-2 c = search needs
+four-requires-2 : tie.Need-four-requires-2
+four-requires-2 c κs =
+    let s = c .before .before .before .before in
+    (simp (length-take, length-drop) (omega (arith, s .pre .0)), digits-take 8 _ (digits-drop 8 _ (s .pre .1)))
 
-shared-slice-read-word-3 : tie.Need-shared-slice-read-word-3
-shared-slice-read-word-3 c = search needs
+array-read-t15 : tie.Need-array-read-t15
+array-read-t15 c = search needs
 
-shared-slice-read-word-4 : tie.Need-shared-slice-read-word-4
-shared-slice-read-word-4 c = search needs
+array-read-t18 : tie.Need-array-read-t18
+array-read-t18 c = search needs
 
-word-requires : tie.Need-word-requires
-word-requires c κs = search needs
+array-read-t21 : tie.Need-array-read-t21
+array-read-t21 c = search needs
 
-shared-slice-read-word-5 : tie.Need-shared-slice-read-word-5
-shared-slice-read-word-5 c = search needs
+array-read-t24 : tie.Need-array-read-t24
+array-read-t24 c = search needs
 
-shared-slice-read-word-6 : tie.Need-shared-slice-read-word-6
-shared-slice-read-word-6 c = search needs
+array-read-t27 : tie.Need-array-read-t27
+array-read-t27 c = search needs
 
-shared-slice-read-word-7 : tie.Need-shared-slice-read-word-7
-shared-slice-read-word-7 c = search needs
+array-read-t30 : tie.Need-array-read-t30
+array-read-t30 c = search needs
 
-shared-slice-read-word-8 : tie.Need-shared-slice-read-word-8
-shared-slice-read-word-8 c = search needs
+array-read-t33 : tie.Need-array-read-t33
+array-read-t33 c = search needs
 
-word-requires-2 : tie.Need-word-requires-2
-word-requires-2 c κs = search needs
+array-read-t36 : tie.Need-array-read-t36
+array-read-t36 c = search needs
 
-shared-slice-read-word-9 : tie.Need-shared-slice-read-word-9
-shared-slice-read-word-9 c = search needs
+slice-aggregate-of : tie.Need-slice-aggregate-of
+slice-aggregate-of c = search needs
 
-shared-slice-read-word-10 : tie.Need-shared-slice-read-word-10
-shared-slice-read-word-10 c = search needs
-
-shared-slice-read-word-11 : tie.Need-shared-slice-read-word-11
-shared-slice-read-word-11 c = search needs
-
-shared-slice-read-word-12 : tie.Need-shared-slice-read-word-12
-shared-slice-read-word-12 c = search needs
-
-word-requires-3 : tie.Need-word-requires-3
-word-requires-3 c κs = search needs
+of-requires : tie.Need-of-requires
+of-requires c κs = search needs
 
 returns : tie.Need-returns
 returns c =
-    let x = c .before .before .before .before .before in
-    let v = x .before .before .before .before .before in
-    let o = v .before .before .before .before .before in
-    let k = o .before .before .before in
-    let s = k .before .before .before .before in
-    setup-fields _ (s .pre) _ _ _ _ _ (k .byte .ensures) (o .byte2 .ensures) (v .word .ensures) (x .word2 .ensures) (c .word3 .ensures)
+    let b = c .before .before in
+    let f = b .before .before in
+    let s = f .before .before .before in
+    c .of .ensures ∙ setup-halves _ (s .pre .0) _ _ (f .four .ensures) (b .four2 .ensures)
 
 pub setup-spec : {M : Type 1} → statement M
 setup-spec =
     tie.close
     (tie.spec
-    shared-slice-read-byte
-    shared-slice-read-byte-2
-    byte-requires
-    shared-slice-read-byte-3
-    shared-slice-read-byte-4
-    byte-requires-2
-    shared-slice-read-word
-    shared-slice-read-word-2
-    shared-slice-read-word-3
-    shared-slice-read-word-4
-    word-requires
-    shared-slice-read-word-5
-    shared-slice-read-word-6
-    shared-slice-read-word-7
-    shared-slice-read-word-8
-    word-requires-2
-    shared-slice-read-word-9
-    shared-slice-read-word-10
-    shared-slice-read-word-11
-    shared-slice-read-word-12
-    word-requires-3
+    sub-four
+    part-four-start
+    part-four-end
+    four-requires
+    sub-four-2
+    part-four-start-2
+    part-four-end-2
+    four-requires-2
+    array-read-t15
+    array-read-t18
+    array-read-t21
+    array-read-t24
+    array-read-t27
+    array-read-t30
+    array-read-t33
+    array-read-t36
+    slice-aggregate-of
+    of-requires
     returns)
