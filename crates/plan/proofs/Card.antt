@@ -10,7 +10,8 @@ use Rattle.board.specs.Protection.{lockedFrom, wordFrom, writeProtected, anyPro
 use Rattle.board.proofs.Protection.{protected-past}
 use Rattle.hex.specs.Hex.{allBytes}
 use Rattle.hex.proofs.Bytes.{byte-at}
-use Rattle.plan.specs.Plan.{pagesOf, barred}
+use Rattle.verdict.specs.Verdict.{pagesOf}
+use Rattle.plan.specs.Plan.{barred}
 
 word-small : (card : List ℕ) → allBytes card ≡ true → wordFrom 0 card < 2 ^ 32
 unfolding wordFrom

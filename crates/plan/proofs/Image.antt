@@ -10,7 +10,8 @@ use borrow.Author.Tests.{eqb-true, eqb-false, ne-eqb}
 use Rattle.laws.proofs.Bytes.{take-at-most}
 use Rattle.laws.proofs.Split.{by-bool, by-lt}
 use Rattle.board.specs.Layout.{pageBytes}
-use Rattle.plan.specs.Plan.{padded, pageOf, pagesOf}
+use Rattle.verdict.specs.Verdict.{pagesOf}
+use Rattle.plan.specs.Plan.{padded, pageOf}
 
 -- behind its end a list has its default, so that one more of it changes nothing
 default-behind : (xs : List ℕ) (i d : ℕ) → getD (xs ++ (d ∷ [])) i d ≡ getD xs i d

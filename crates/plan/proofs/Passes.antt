@@ -19,11 +19,11 @@ use Rattle.device.specs.Table.{allowedOf}
 use Rattle.hex.specs.Hex.{allBytes}
 use Rattle.job.proofs.FirstLine.{same-refl}
 use Rattle.verdict.specs.declared.Verdict.the-variants as verdict
-use Rattle.verdict.specs.Verdict.{pagesEnd}
+use Rattle.verdict.specs.Verdict.{pagesOf, pagesEnd}
 use Rattle.verdict.specs.Checked.{workBytes}
 use Rattle.cells.specs.Cells.{begun, Over, ended, overOf, suspect, lowestFrom, endVerdict, overVerdict, verdictOf}
 use Rattle.cells.proofs.Lowest.{lowest-none}
-use Rattle.plan.specs.Plan.{pageAddress, padded, pageOf, getStatus, download, leaving, pagesFrom, pagesOf, planEvents, barred}
+use Rattle.plan.specs.Plan.{pageAddress, padded, pageOf, getStatus, download, leaving, pagesFrom, planEvents, barred}
 use Rattle.plan.proofs.Requests.{resting, start-free, idle-free, over-on, leave-moves, manifest-moves, pointer-polled}
 use Rattle.plan.proofs.Written.{default-same}
 use Rattle.plan.proofs.Image.{padded-two, padded-most, page-most, page-some}

@@ -18,7 +18,8 @@ use Rattle.job.proofs.EventText.{text-events}
 use Rattle.cells.proofs.Events.{Fitting}
 use Rattle.cells.proofs.Runs.{AllFit}
 use Rattle.request.specs.Spelled.{two, four}
-use Rattle.plan.specs.Plan.{download, getStatus, polled, pageAddress, erasePage, setPointer, padded, pageOf, leaving, pagesFrom, pagesOf, planEvents, planOf}
+use Rattle.verdict.specs.Verdict.{pagesOf}
+use Rattle.plan.specs.Plan.{download, getStatus, polled, pageAddress, erasePage, setPointer, padded, pageOf, leaving, pagesFrom, planEvents, planOf}
 use Rattle.plan.proofs.Requests.{setupFor, download-setup}
 use Rattle.plan.proofs.Image.{padded-most, page-most}
 

@@ -4,7 +4,8 @@ use mathlib.Core.Bool.{Bool, true, false}
 use mathlib.Core.List.{List}
 use Prim.Native.Nat.{ℕ}
 use Rattle.board.specs.Protection.{lockedFrom, wordFrom, anyProtected}
-use Rattle.plan.specs.Plan.{pagesOf, barred}
+use Rattle.verdict.specs.Verdict.{pagesOf}
+use Rattle.plan.specs.Plan.{barred}
 
 pub barred-locked : (image card : List ℕ) → lockedFrom 0 card ≡ true → true ≡ barred image card
 unfolding barred

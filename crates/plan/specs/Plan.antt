@@ -1,7 +1,7 @@
 -- The plan of an image. Document 01, "The checker and the plan", last paragraph, and the rows of "Refusal numbers" that name the plan. Assumes nothing.
 use mathlib.Core.Bool.{Bool, cond, _||_}
 use mathlib.Core.List.{List, [], _∷_, _++_}
-use Prim.Native.Nat.{ℕ, zero, suc, _+_, _-_, _*_, _/_}
+use Prim.Native.Nat.{ℕ, zero, suc, _+_, _*_}
 use lib.Dec.{eqb}
 use lib.ListN.{length, take, drop}
 use Rattle.board.specs.Layout.{pageBytes, flashFirst}
@@ -13,6 +13,7 @@ use Rattle.loader.specs.declared.Admission.the-variants as admission
 use Rattle.job.specs.declared.Done.the-variants.{Refused}
 use Rattle.job.specs.Event.{Event, request, textOf}
 use Rattle.job.specs.Calls.{Outcome, left, delivered}
+use Rattle.verdict.specs.Verdict.{pagesOf}
 use Rattle.verdict.specs.Checked.{supplied, then}
 
 -- DNLOAD of the data xs with this wValue; GETSTATUS
@@ -56,10 +57,6 @@ pagesFrom image (suc count) page =
     (polled (setPointer (pageAddress page))
     (polled (download 2 (padded (pageOf image page)))
     (pagesFrom image count (suc page))))
-
--- how many pages the image takes
-abbrev pub pagesOf : List ℕ → ℕ
-pagesOf image = (length image + (pageBytes - 1)) / pageBytes
 
 unfoldable pub planEvents : List ℕ → List Event
 planEvents image = pagesFrom image (pagesOf image) 0

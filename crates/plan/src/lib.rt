@@ -13,7 +13,8 @@ ghost use Rattle.board.specs.Layout.{loggerPages, pageBytes};
 ghost use Rattle.job.specs.Event.{request, lineOf};
 ghost use Rattle.job.specs.Calls.{left};
 ghost use Rattle.request.specs.Spelled.{four};
-ghost use Rattle.plan.specs.Plan.{download, getStatus, padded, pagesOf, planOf, barred, planned};
+ghost use Rattle.verdict.specs.Verdict.{pagesOf};
+ghost use Rattle.plan.specs.Plan.{download, getStatus, padded, planOf, barred, planned};
 ghost use Rattle.plan.specs.Parts.{polledText, pageText, leavingText, Laid, statusBytes, sentBytes, leavingBytes, paddedLength, pageLines, mostBytes};
 
 // The command bytes of a DNLOAD with wValue 0: set pointer and erase page.

@@ -32,9 +32,13 @@ endFault n card c w =
     (cond (eqb c 2) (not (eqb (w .device .pointer) flashFirst))
     (cond (eqb c 3) (not (same (drop (optionsFrom n) (w .memory)) card)) false))
 
+-- how many pages the image takes, the last perhaps in part; the one place that rounds
+abbrev pub pagesOf : List ℕ → ℕ
+pagesOf image = (length image + (pageBytes - 1)) / pageBytes
+
 -- where the image's last page ends
 abbrev pub pagesEnd : List ℕ → ℕ
-pagesEnd image = (length image + (pageBytes - 1)) / pageBytes * pageBytes
+pagesEnd image = pagesOf image * pageBytes
 
 -- "the image in place, the rest of its last page erased, and every other flash page .. as before": the byte wanted at offset f of a board that began as w
 abbrev pub wantedAt : List ℕ → World → ℕ → ℕ
