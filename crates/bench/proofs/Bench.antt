@@ -8,9 +8,9 @@ use lib.ListN.{length, replicate, length-replicate}
 use Rattle.board.specs.Layout.{loggerPages, optionBytes}
 use Rattle.hex.specs.Hex.{allBytes}
 use Rattle.verdict.specs.declared.Verdict.the-variants.{End}
-use Rattle.verdict.specs.Verdict.{Judged}
+use Rattle.verdict.specs.Verdict.{endFails, Judged}
 use Rattle.verdict.specs.Checked.{workBytes}
-use Rattle.cells.specs.Cells.{overOf, endVerdict, verdictOf}
+use Rattle.cells.specs.Cells.{overOf, lowestFrom, endNumber, endVerdict, verdictOf}
 use Rattle.cells.proofs.Judgement.{judged}
 use Rattle.bench.specs.Case.{found, foundIn, expectedIn}
 use Rattle.bench.specs.Table.{table}
@@ -22,5 +22,5 @@ bench = refl
 
 -- "empty job: End 1", as the promised relation says it, for every image and every card of 16 bytes
 pub empty-job : (image card : List ℕ) → length card ≡ optionBytes → allBytes card ≡ true → Judged loggerPages [] image card (End 1)
-unfolding verdictOf overOf endVerdict
+unfolding verdictOf overOf endVerdict endNumber lowestFrom endFails
 empty-job image card lc bytes = judged loggerPages [] image card (replicate (workBytes loggerPages) 0) (omega arith) (length-replicate {A = ℕ} (workBytes loggerPages) 0) lc bytes tt

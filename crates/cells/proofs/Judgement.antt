@@ -10,7 +10,7 @@ use lib.ListN.{length, take, drop, getD, length-take, length-drop}
 use lib.Seq.{ext-getD, getD-take, getD-drop, length-take-le}
 use borrow.Author.Tests.{eqb-true, eqb-false, eq-eqb, ne-eqb, ltb-true, ltb-false, lt-ltb, le-ltb, not-true, not-false}
 use Rattle.laws.proofs.Split.{by-bool, by-lt, by-eq, and-true}
-use Rattle.board.specs.Layout.{flashFirst, flashBytes, optionsFrom, optionBytes, memoryBytes}
+use Rattle.board.specs.Layout.{flashBytes, optionsFrom, optionBytes, memoryBytes}
 use Rattle.device.specs.declared.Device.{Device}
 use Rattle.device.specs.State.{started}
 use Rattle.loader.proofs.Form.{started-form}
@@ -19,9 +19,9 @@ use Rattle.job.specs.Event.{Event, same}
 use Rattle.verdict.specs.declared.Verdict.{Verdict}
 use Rattle.verdict.specs.declared.Verdict.the-variants as verdict
 use Rattle.verdict.specs.World.{World, Fresh, after, failsAt}
-use Rattle.verdict.specs.Verdict.{isLeft, endFault, pagesEnd, wantedAt, wrongAt, OnSome, OnNone, Least, RunsClean, EndsWell, FlashRight, Judged}
+use Rattle.verdict.specs.Verdict.{endFails, endFault, pagesEnd, wantedAt, wrongAt, OnSome, OnNone, Least, RunsClean, EndsWell, FlashRight, Judged}
 use Rattle.verdict.specs.Checked.{workBytes}
-use Rattle.cells.specs.Cells.{known, begun, Over, fell, ended, overOf, suspect, lowestFrom, flashVerdict, endVerdict, overVerdict, verdictOf}
+use Rattle.cells.specs.Cells.{known, begun, Over, fell, ended, overOf, suspect, lowestFrom, flashVerdict, endNumber, endVerdict, overVerdict, verdictOf}
 use Rattle.cells.proofs.Likeness.{Alike, cellOf}
 use Rattle.cells.proofs.Events.{Stands}
 use Rattle.cells.proofs.Runs.{AllFit, run-ends, run-before, run-falls, fell-above}
@@ -125,10 +125,7 @@ module _ (n : ℕ) (es : List Event) (image card : List ℕ) (d : Device) (w : L
 
   -- the end conditions, of all boards at once
   unfoldable endOfAll : ℕ → Bool
-  endOfAll c =
-      cond (eqb c 1) (not (isLeft (d .mode)))
-      (cond (eqb c 2) (not (eqb (d .pointer) flashFirst))
-      (cond (eqb c 3) (not (same (take optionBytes (drop (optionsFrom n) w)) card)) false))
+  endOfAll = endFails d (same (take optionBytes (drop (optionsFrom n) w)) card)
 
   end-same : (c : ℕ) (x : World) → Fresh n card x → endFault n card c (after n es x) ≡ endOfAll c
   unfolding endFault endOfAll
@@ -167,35 +164,26 @@ module _ (n : ℕ) (es : List Event) (image card : List ℕ) (d : Device) (w : L
         let h : flashBytes n ≤ f = ltb-false _ _ b in
         rw b (clean, well, λ j l. clear j l (lowest-before test (flashBytes n) 0 j (omega arith) (omega arith))))
 
-    -- no condition below c + 1 where none is below c and c is none
-    on : (c : ℕ) → ((j : ℕ) → j < c → endOfAll j ≡ false) → endOfAll c ≡ false → (j : ℕ) → j < c + 1 → endOfAll j ≡ false
-    on c below here j h = by-eq j c (λ e. rw e here) (λ e. below j (omega arith))
-
     past-three : (j : ℕ) → 4 ≤ j → endOfAll j ≡ false
-    unfolding endOfAll
+    unfolding endOfAll endFails
     past-three j h =
         let a : j ≡ 1 → ⊥ = λ e. omega arith in
         let b : j ≡ 2 → ⊥ = λ e. omega arith in
         let c : j ≡ 3 → ⊥ = λ e. omega arith in
         rw (ne-eqb j 1 a, ne-eqb j 2 b, ne-eqb j 3 c)
 
+    end-before : (j : ℕ) → j < lowestFrom endOfAll 3 1 → endOfAll j ≡ false
+    unfolding endOfAll endFails
+    end-before j h = by-lt j 1 (λ l. let z : j ≡ 0 = omega arith in rw z) (λ l. lowest-before endOfAll 3 1 j l h)
+
     pub end-judged : Judged n es image card (endVerdict n image card d w)
-    unfolding endVerdict endOfAll
+    unfolding endVerdict endNumber endOfAll
     end-judged =
-        let none : (j : ℕ) → j < 1 → endOfAll j ≡ false = λ j h. let z : j ≡ 0 = omega arith in rw z in
-        by-bool (isLeft (d .mode))
-        (λ a.
-        let below₂ = on 1 none (rw a) in
-        by-bool (eqb (d .pointer) flashFirst)
+        let c = lowestFrom endOfAll 3 1 in
+        by-bool (ltb c 4) (λ b. rw b (ends-at c (lowest-here endOfAll 3 1 (ltb-true _ _ b)) end-before))
         (λ b.
-        let below₃ = on 2 below₂ (rw b) in
-        by-bool (same (take optionBytes (drop (optionsFrom n) w)) card)
-        (λ c.
-        let below₄ = on 3 below₃ (rw c) in
-        rw (a, b, c) (flash-judged (λ j. by-lt j 4 (λ l. below₄ j l) (λ l. past-three j l))))
-        (λ c. rw (a, b, c) (ends-at 3 (rw c) below₃)))
-        (λ b. rw (a, b) (ends-at 2 (rw b) below₂)))
-        (λ a. rw a (ends-at 1 (rw a) none))
+        let h : 4 ≤ c = ltb-false _ _ b in
+        rw b (flash-judged (λ j. by-lt j 4 (λ l. end-before j (omega arith)) (λ l. past-three j l))))
 
 -- by how the run over the work area comes out
 by-over : {C : Type 0} (v : Over) → ((k : ℕ) → v ≡ fell k → C) → ((d : Device) (w : List ℕ) → v ≡ ended d w → C) → C

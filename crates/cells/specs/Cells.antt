@@ -7,7 +7,7 @@ use Prim.Native.Nat.{ℕ, zero, suc, _+_, _*_}
 use lib.Dec.{eqb, ltb}
 use lib.ListN.{length, take, drop, getD, replicate}
 use Rattle.laws.specs.Bytes.{put, filled}
-use Rattle.board.specs.Layout.{pageBytes, flashFirst, flashBytes, ramFrom, ramBytes, optionsFrom, optionBytes, memoryBytes}
+use Rattle.board.specs.Layout.{pageBytes, flashBytes, ramFrom, ramBytes, optionsFrom, optionBytes, memoryBytes}
 use Rattle.board.specs.Protection.{readProtected, wordOf, writeProtected}
 use Rattle.request.specs.declared.Setup.{Setup}
 use Rattle.request.specs.Setup.{setupOf}
@@ -31,7 +31,7 @@ use Rattle.memory.specs.Whole.{unprotected}
 use Rattle.job.specs.Event.{Event, attach, request, same}
 use Rattle.verdict.specs.declared.Verdict.{Verdict}
 use Rattle.verdict.specs.declared.Verdict.the-variants as verdict
-use Rattle.verdict.specs.Verdict.{isLeft, pagesEnd}
+use Rattle.verdict.specs.Verdict.{endFails, pagesEnd}
 
 -- the work area holds values, then marks, then the block
 abbrev pub blockFrom : ℕ → ℕ
@@ -159,16 +159,19 @@ lowestFrom test (suc count) i = cond (test i) i (lowestFrom test count (suc i))
 abbrev pub flashVerdict : ℕ → ℕ → Verdict
 flashVerdict n f = cond (ltb f (flashBytes n)) (verdict.Flash f) verdict.Pass
 
--- the first end condition that fails, or 0
-abbrev pub endNumber : Bool → Bool → Bool → ℕ
-endNumber left first same = cond (not left) 1 (cond (not first) 2 (cond (not same) 3 0))
+-- the first end condition that fails, or 4
+unfoldable pub endNumber : Device → Bool → ℕ
+endNumber d kept = lowestFrom (endFails d kept) 3 1
 
+-- the verdict of end condition c, or, where none fails, another
+abbrev pub endOr : ℕ → Verdict → Verdict
+endOr c other = cond (ltb c 4) (verdict.End c) other
+
+-- the end conditions are the same on all boards: their device is one, and so are their options
 unfoldable pub endVerdict : ℕ → List ℕ → List ℕ → Device → List ℕ → Verdict
 endVerdict n image card d w =
-    cond (not (isLeft (d .mode))) (verdict.End 1)
-    (cond (not (eqb (d .pointer) flashFirst)) (verdict.End 2)
-    (cond (not (same (take optionBytes (drop (optionsFrom n) w)) card)) (verdict.End 3)
-    (flashVerdict n (lowestFrom (suspect n image w) (flashBytes n) 0))))
+    endOr (endNumber d (same (take optionBytes (drop (optionsFrom n) w)) card))
+    (flashVerdict n (lowestFrom (suspect n image w) (flashBytes n) 0))
 
 abbrev pub overVerdict : ℕ → List ℕ → List ℕ → Over → Verdict
 overVerdict n image card (fell k) = verdict.Event k

@@ -1,5 +1,5 @@
 -- The walk over a text, event by event, and the loops at its end. Assumes nothing.
-use mathlib.Core.Path.{_≡_, refl, _∙_, sym}
+use mathlib.Core.Path.{_≡_, _∙_, sym}
 use mathlib.Core.Bool.{Bool, true, false, cond, not, _&&_}
 use mathlib.Core.List.{List}
 use Prim.Native.Nat.{ℕ, suc, _+_, _-_, _≤_, _<_}
@@ -7,14 +7,14 @@ use native.Mathlib.Omega.{arith}
 use native.Mathlib.Numerals.{add-one}
 use lib.Dec.{eqb, ltb}
 use lib.ListN.{length, take, drop, getD}
-use borrow.Author.Tests.{ne-eqb, eq-eqb, lt-ltb, le-ltb}
+use borrow.Author.Tests.{lt-ltb, le-ltb}
 use Rattle.laws.specs.Bytes.{put}
-use Rattle.board.specs.Layout.{flashFirst, flashBytes, memoryBytes, optionsFrom, optionBytes}
+use Rattle.board.specs.Layout.{flashBytes, memoryBytes, optionsFrom, optionBytes}
 use Rattle.device.specs.declared.Device.{Device}
 use Rattle.job.specs.Event.{same}
 use Rattle.verdict.specs.declared.Verdict.the-variants as verdict
-use Rattle.verdict.specs.Verdict.{isLeft, pagesEnd}
-use Rattle.cells.specs.Cells.{marked, learnt, begun, suspect, lowestFrom, endNumber, flashVerdict, endVerdict}
+use Rattle.verdict.specs.Verdict.{pagesEnd}
+use Rattle.cells.specs.Cells.{marked, learnt, begun, suspect, lowestFrom, flashVerdict, endNumber, endOr, endVerdict}
 
 pub lowest-found : (test : ℕ → Bool) (i e : ℕ) → i < e → test i ≡ true → i ≡ lowestFrom test (e - i) i
 unfolding lowestFrom
@@ -56,28 +56,22 @@ module _ (n : ℕ) (image w : List ℕ) (f mark : ℕ) (b : mark ≡ getD w (mem
   unfolding suspect
   suspect-other h k = rw (le-ltb f (length image) h, le-ltb f (pagesEnd image) k, b)
 
--- the end conditions by their tests: c is the number of the first that fails
-module _ (n : ℕ) (image card : List ℕ) (d : Device) (w : List ℕ) (left first kept : Bool) (c : ℕ) (l : left ≡ isLeft (d .mode)) (p : first ≡ eqb (d .pointer) flashFirst) (o : same (take optionBytes (drop (optionsFrom n) w)) card ≡ kept) (is : c ≡ endNumber left first kept) where
-  by-number : endVerdict n image card d w ≡ cond (eqb (endNumber left first kept) 0) (flashVerdict n (lowestFrom (suspect n image w) (flashBytes n) 0)) (verdict.End (endNumber left first kept))
+-- the end: c is the number of the first condition that fails
+module _ (n : ℕ) (image card : List ℕ) (d : Device) (w : List ℕ) (kept : Bool) (c : ℕ) (o : same (take optionBytes (drop (optionsFrom n) w)) card ≡ kept) (is : c ≡ endNumber d kept) where
+  by-number : endVerdict n image card d w ≡ endOr c (flashVerdict n (lowestFrom (suspect n image w) (flashBytes n) 0))
   unfolding endVerdict
-  by-number = rw (← l, ← p, o) (go left first kept)
-    where
-      go : (a b e : Bool) → cond (not a) (verdict.End 1) (cond (not b) (verdict.End 2) (cond (not e) (verdict.End 3) (flashVerdict n (lowestFrom (suspect n image w) (flashBytes n) 0)))) ≡ cond (eqb (endNumber a b e) 0) (flashVerdict n (lowestFrom (suspect n image w) (flashBytes n) 0)) (verdict.End (endNumber a b e))
-      go false b e = refl
-      go true false e = refl
-      go true true false = refl
-      go true true true = refl
+  by-number = rw (o, is)
 
-  pub end-fails : (c ≡ 0 → ⊥) → verdict.End c ≡ endVerdict n image card d w
-  end-fails h = sym (by-number ∙ rw (← is, ne-eqb c 0 h))
+  pub end-fails : c < 4 → verdict.End c ≡ endVerdict n image card d w
+  end-fails h = sym (by-number ∙ rw (lt-ltb c 4 h))
 
-  end-flash : (f size : ℕ) → c ≡ 0 → f ≡ lowestFrom (suspect n image w) (flashBytes n) 0 → size ≡ flashBytes n → cond (ltb f size) (verdict.Flash f) verdict.Pass ≡ endVerdict n image card d w
-  end-flash f size h e s = sym (by-number ∙ rw (← is, eq-eqb c 0 h, ← e, ← s))
+  end-flash : (f size : ℕ) → 4 ≤ c → f ≡ lowestFrom (suspect n image w) (flashBytes n) 0 → size ≡ flashBytes n → cond (ltb f size) (verdict.Flash f) verdict.Pass ≡ endVerdict n image card d w
+  end-flash f size h e s = sym (by-number ∙ rw (le-ltb c 4 h, ← e, ← s))
 
-  pub end-wrong : (f size : ℕ) → c ≡ 0 → f ≡ lowestFrom (suspect n image w) (flashBytes n) 0 → size ≡ flashBytes n → f < size → verdict.Flash f ≡ endVerdict n image card d w
+  pub end-wrong : (f size : ℕ) → 4 ≤ c → f ≡ lowestFrom (suspect n image w) (flashBytes n) 0 → size ≡ flashBytes n → f < size → verdict.Flash f ≡ endVerdict n image card d w
   end-wrong f size h e s g = rw (lt-ltb f size g) at (end-flash f size h e s)
 
-  pub end-right : (f size : ℕ) → c ≡ 0 → f ≡ lowestFrom (suspect n image w) (flashBytes n) 0 → size ≡ flashBytes n → size ≤ f → verdict.Pass ≡ endVerdict n image card d w
+  pub end-right : (f size : ℕ) → 4 ≤ c → f ≡ lowestFrom (suspect n image w) (flashBytes n) 0 → size ≡ flashBytes n → size ≤ f → verdict.Pass ≡ endVerdict n image card d w
   end-right f size h e s g = rw (le-ltb f size g) at (end-flash f size h e s)
 
 -- the options as a part of the work area

@@ -546,12 +546,11 @@ fn finish(board: Board, device: Device, image: &[u8], card: &[u8], work: &[u8]) 
     requires { ⌜ (length (now work) ≡ workBytes (board .pages)) × (length (now image) ≤ flashBytes (board .pages)) × (length (now card) ≡ optionBytes) ⌝ }
     ensures { λ r. ⌜ r ≡ endVerdict (board .pages) (now (image .entry)) (now (card .entry)) device (now (work .entry)) ⌝ }
 {
-    let mode = device.mode;
     let from = board.options_from();
     let to = from + Board::OPTION_BYTES;
     let same = same_bytes(&work[from..to], card);
-    let fault = end_fault(has_left(mode), device.pointer == Board::FLASH, same);
-    if fault != 0 {
+    let fault = end_fault(device, same);
+    if fault < 4 {
         return Verdict::End(fault);
     }
     let f = first_suspect(board, image, work);
@@ -561,20 +560,21 @@ fn finish(board: Board, device: Device, image: &[u8], card: &[u8], work: &[u8]) 
     Verdict::Pass
 }
 
-// The first end condition that fails, or 0: has the board left, from the first address, with the same options?
-fn end_fault(left: bool, first: bool, same: bool) -> u8
-    ensures { λ r. ⌜ r ≡ endNumber left first same ⌝ }
+// The first end condition that fails, or 4: has the board left, from the first address, with the same options?
+fn end_fault(device: Device, same: bool) -> u8
+    ensures { λ r. ⌜ r ≡ endNumber device same ⌝ }
 {
-    if !left {
+    let mode = device.mode;
+    if !has_left(mode) {
         return 1;
     }
-    if !first {
+    if device.pointer != Board::FLASH {
         return 2;
     }
     if !same {
         return 3;
     }
-    0
+    4
 }
 
 fn has_left(mode: Mode) -> bool

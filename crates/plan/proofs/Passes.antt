@@ -19,9 +19,9 @@ use Rattle.device.specs.Table.{allowedOf}
 use Rattle.hex.specs.Hex.{allBytes}
 use Rattle.job.proofs.FirstLine.{same-refl}
 use Rattle.verdict.specs.declared.Verdict.the-variants as verdict
-use Rattle.verdict.specs.Verdict.{pagesOf, pagesEnd}
+use Rattle.verdict.specs.Verdict.{endFails, pagesOf, pagesEnd}
 use Rattle.verdict.specs.Checked.{workBytes}
-use Rattle.cells.specs.Cells.{begun, Over, ended, overOf, suspect, lowestFrom, endVerdict, overVerdict, verdictOf}
+use Rattle.cells.specs.Cells.{begun, Over, ended, overOf, suspect, lowestFrom, endNumber, endVerdict, overVerdict, verdictOf}
 use Rattle.cells.proofs.Lowest.{lowest-none}
 use Rattle.plan.specs.Plan.{pageAddress, padded, pageOf, getStatus, download, leaving, pagesFrom, planEvents, barred}
 use Rattle.plan.proofs.Requests.{resting, start-free, idle-free, over-on, leave-moves, manifest-moves, pointer-polled}
@@ -94,7 +94,7 @@ module _ (n : ℕ) (image card w : List ℕ) (lc : length card ≡ optionBytes) 
       getD-take optionBytes (drop (optionsFrom n) w) i 0 b ∙ getD-drop (optionsFrom n) w i 0 ∙ placed .options i b)
 
   placed-passes : endVerdict n image card (resting Left flashFirst) w ≡ verdict.Pass
-  unfolding endVerdict
+  unfolding endVerdict endNumber lowestFrom endFails
   placed-passes =
       let none : lowestFrom (suspect n image w) (flashBytes n) 0 ≡ 0 + flashBytes n = lowest-none (suspect n image w) (flashBytes n) 0 (λ j a b. none-suspect j (omega arith)) in
       let past : flashBytes n ≤ 0 + flashBytes n = omega arith in

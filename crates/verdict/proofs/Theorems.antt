@@ -18,7 +18,7 @@ use Rattle.job.proofs.FirstLine.{same-refl, same-eq}
 use Rattle.verdict.specs.declared.Verdict.{Verdict}
 use Rattle.verdict.specs.declared.Verdict.the-variants as verdict
 use Rattle.verdict.specs.World.{World, Fresh, after, failsAt}
-use Rattle.verdict.specs.Verdict.{isLeft, endFault, pagesEnd, wantedAt, wrongAt, OnSome, OnNone, Least, Judged}
+use Rattle.verdict.specs.Verdict.{isLeft, endFails, endFault, pagesEnd, wantedAt, wrongAt, OnSome, OnNone, Least, Judged}
 use Rattle.verdict.specs.Checked.{checkable, Ruled, Checked}
 use Rattle.verdict.specs.Demand.{Works, AllWork}
 use Rattle.verdict.proofs.Supply.{checkable-parts}
@@ -80,7 +80,7 @@ module _ (n : ℕ) (es : List Event) (image card : List ℕ) where
     end-well c = p .1 c w fresh
 
     pass-works : length image ≤ flashBytes n → Works n es image card w
-    unfolding endFault
+    unfolding endFault endFails
     pass-works room =
         record {
           clean = λ k. p .0 k w fresh;
@@ -95,7 +95,7 @@ module _ (n : ℕ) (es : List Event) (image card : List ℕ) where
   -- and the other way round
   module _ (w : World) (works : Works n es image card w) where
     no-end : (c : ℕ) → endFault n card c (after n es w) ≡ false
-    unfolding endFault
+    unfolding endFault endFails
     no-end c =
         by-eq c 1 (λ e. rw (e, works .started))
         (λ a.

@@ -7,6 +7,7 @@ use lib.Dec.{eqb, ltb}
 use lib.ListN.{length, drop, getD}
 use Rattle.board.specs.Layout.{pageBytes, flashFirst, flashBytes, optionsFrom}
 use Rattle.refusal.specs.declared.Refusal.{Refusal}
+use Rattle.device.specs.declared.Device.{Device}
 use Rattle.device.specs.declared.Mode.{Mode}
 use Rattle.device.specs.declared.Mode.the-variants.{Idle, DownloadSync, DownloadBusy, DownloadIdle, ManifestSync, UploadIdle, Error, Left, Rebooting}
 use Rattle.job.specs.Event.{Event, same}
@@ -25,12 +26,17 @@ isLeft Error = false
 isLeft Left = true
 isLeft Rebooting = false
 
--- "End c, first of: 1 mode is not Left, 2 pointer is not 0x08000000, 3 options differ from the card"
+-- "End c, first of: 1 mode is not Left, 2 pointer is not 0x08000000, 3 options differ from the card": does condition c fail in
+-- this state, with the options kept or not?
+unfoldable pub endFails : Device → Bool → ℕ → Bool
+endFails d kept c =
+    cond (eqb c 1) (not (isLeft (d .mode)))
+    (cond (eqb c 2) (not (eqb (d .pointer) flashFirst))
+    (cond (eqb c 3) (not kept) false))
+
+-- condition c fails on the board w
 unfoldable pub endFault : ℕ → List ℕ → ℕ → World → Bool
-endFault n card c w =
-    cond (eqb c 1) (not (isLeft (w .device .mode)))
-    (cond (eqb c 2) (not (eqb (w .device .pointer) flashFirst))
-    (cond (eqb c 3) (not (same (drop (optionsFrom n) (w .memory)) card)) false))
+endFault n card c w = endFails (w .device) (same (drop (optionsFrom n) (w .memory)) card) c
 
 -- how many pages the image takes, the last perhaps in part; the one place that rounds
 abbrev pub pagesOf : List ℕ → ℕ

@@ -1,5 +1,4 @@
 -- `checker::finish` meets its contract. Assumes nothing.
-use mathlib.Core.Path.{refl}
 use Rattle.checker.proofs.Walking.{end-fails, end-wrong, end-right, options-part}
 use borrow.Author.Needs.{needs}
 use Rattle.checker.proofs.finish.Statement.{statement}
@@ -23,19 +22,15 @@ part-same-bytes-end c = search needs
 same-bytes-requires : tie.Need-same-bytes-requires
 same-bytes-requires c κs = search needs
 
-has-left-requires : tie.Need-has-left-requires
-has-left-requires c κs = search needs
-
 end-fault-requires : tie.Need-end-fault-requires
 end-fault-requires c κs = search needs
 
 returns : tie.Need-returns
 returns c =
     let e = c .before in
-    let l = e .before .before in
-    let o = l .before in
+    let o = e .before in
     let k = options-part _ _ _ _ _ (o .before .before .options-from .ensures) (o .same-bytes .ensures) in
-    end-fails _ _ _ _ _ _ _ _ _ (l .has-left .ensures) refl k (e .end-fault .ensures) (c .if1 .taken)
+    end-fails _ _ _ _ _ _ _ k (e .end-fault .ensures) (c .if1 .taken)
 
 first-suspect-requires : tie.Need-first-suspect-requires
 first-suspect-requires c κs = search needs
@@ -47,19 +42,17 @@ returns-2 : tie.Need-returns-2
 returns-2 c =
     let i = c .before .before .before in
     let e = i .before in
-    let l = e .before .before in
-    let o = l .before in
+    let o = e .before in
     let k = options-part _ _ _ _ _ (o .before .before .options-from .ensures) (o .same-bytes .ensures) in
-    end-wrong _ _ _ _ _ _ _ _ _ (l .has-left .ensures) refl k (e .end-fault .ensures) _ _ (i .if1 .left) (c .before .before .first-suspect .ensures) (c .before .flash-bytes .ensures) (c .if2 .taken)
+    end-wrong _ _ _ _ _ _ _ k (e .end-fault .ensures) _ _ (i .if1 .left) (c .before .before .first-suspect .ensures) (c .before .flash-bytes .ensures) (c .if2 .taken)
 
 returns-3 : tie.Need-returns-3
 returns-3 c =
     let i = c .before .before .before in
     let e = i .before in
-    let l = e .before .before in
-    let o = l .before in
+    let o = e .before in
     let k = options-part _ _ _ _ _ (o .before .before .options-from .ensures) (o .same-bytes .ensures) in
-    end-right _ _ _ _ _ _ _ _ _ (l .has-left .ensures) refl k (e .end-fault .ensures) _ _ (i .if1 .left) (c .before .before .first-suspect .ensures) (c .before .flash-bytes .ensures) (c .if2 .left)
+    end-right _ _ _ _ _ _ _ k (e .end-fault .ensures) _ _ (i .if1 .left) (c .before .before .first-suspect .ensures) (c .before .flash-bytes .ensures) (c .if2 .left)
 
 pub finish-spec : {M : Type 1} → statement M
 finish-spec =
@@ -71,7 +64,6 @@ finish-spec =
     part-same-bytes-start
     part-same-bytes-end
     same-bytes-requires
-    has-left-requires
     end-fault-requires
     returns
     first-suspect-requires
