@@ -1,6 +1,6 @@
 -- Laws of `blockAddress`: the block number 0 and 1, and that it fits 64 bits. Assumes nothing.
-use mathlib.Core.Path.{_≡_, refl, _∙_}
-use Prim.Native.Nat.{ℕ, _+_, _-_, _*_, _≤_, _<_}
+use mathlib.Core.Path.{_≡_}
+use Prim.Native.Nat.{ℕ, _-_, _*_, _≤_, _<_}
 use native.Mathlib.Omega.{arith}
 use native.Mathlib.Nat.{mul-le-mul, zero-mul, zero-add}
 use Rattle.action.specs.Access.{blockAddress}

@@ -1,6 +1,6 @@
 // Actions on lent bytes: read one, lay some over others, fill a part.
 ghost use mathlib.Core.Path.{_≡_};
-ghost use Prim.Native.Nat.{_+_, _-_, _≤_, _<_};
+ghost use Prim.Native.Nat.{_+_, _-_, _≤_};
 ghost use lib.ListN.{length, getD};
 ghost use Rattle.laws.specs.Bytes.{put, filled};
 

@@ -1,15 +1,15 @@
 -- Each action keeps boards and work area alike. Assumes nothing.
-use mathlib.Core.Path.{_≡_, refl, ap, ap₂, _∙_, sym, subst}
-use mathlib.Core.Bool.{Bool, true, false, cond, not, _&&_, true≢false, false≢true}
-use mathlib.Core.Logic.{_⊎_, inl, inr, ⊎-elim}
-use mathlib.Core.List.{List, [], _∷_, _++_}
+use mathlib.Core.Path.{_≡_, ap, ap₂, _∙_, sym}
+use mathlib.Core.Bool.{true, false, not, true≢false}
+use mathlib.Core.Logic.{inr}
+use mathlib.Core.List.{List, _++_}
 use Prim.Native.Nat.{ℕ, zero, suc, _+_, _-_, _*_, _≤_, _<_}
 use native.Mathlib.Omega.{arith}
 use lib.Dec.{eqb}
-use lib.ListN.{length, take, drop, getD, replicate, length-append, length-drop, length-replicate}
+use lib.ListN.{length, drop, getD, replicate, length-append, length-drop, length-replicate}
 use lib.Seq.{getD-drop}
-use borrow.Author.Tests.{eqb-true, eqb-false, eq-eqb, ne-eqb}
-use Rattle.laws.specs.Bytes.{put, filled}
+use borrow.Author.Tests.{eqb-true, eq-eqb}
+use Rattle.laws.specs.Bytes.{filled}
 use Rattle.laws.proofs.Append.{put-over}
 use Rattle.laws.proofs.Split.{by-bool, by-lt, and-true}
 use Rattle.board.specs.Layout.{pageBytes, flashBytes, ramFrom, ramBytes, optionsFrom, memoryBytes, defaults}
@@ -17,10 +17,8 @@ use Rattle.board.specs.Protection.{readProtected, wordOf, writeProtected, locke
 use Rattle.memory.specs.Flash.{kept, each, blank, stored, erased, erasedFrom, erasedAll}
 use Rattle.memory.specs.Whole.{unprotected, ramCleared}
 use Rattle.memory.proofs.Places.{stored-length, stored-outside, stored-spares, stored-puts, each-all, each-if, each-not, Odd}
-use Rattle.verdict.specs.Checked.{workBytes}
 use Rattle.cells.specs.Cells.{known, learnt, surely, pageErased, pagesErased}
-use Rattle.cells.proofs.Learnt.{Outside}
-use Rattle.cells.proofs.Likeness.{cellOf, Alike, among, learnt-alike}
+use Rattle.cells.proofs.Likeness.{Alike, among, learnt-alike}
 
 -- a list of equal bytes, laid over the memory and learnt
 same-bytes : (n from count v : ℕ) (m₀ m w : List ℕ) → from + count ≤ memoryBytes n → Alike n m₀ m w → Alike n m₀ (filled from count v m) (learnt n from (replicate count v) w)

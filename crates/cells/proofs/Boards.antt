@@ -1,18 +1,17 @@
 -- Fresh boards stand where the work area begins; and two of them, to show a fault on. Assumes nothing.
 use mathlib.Core.Path.{_≡_, refl, ap, _∙_, sym}
-use mathlib.Core.Bool.{Bool, true, false, _&&_}
-use mathlib.Core.Logic.{_⊎_, inl, inr}
+use mathlib.Core.Bool.{true, false}
+use mathlib.Core.Logic.{inl}
 use mathlib.Core.List.{List, [], _∷_, _++_}
 use Prim.Native.Nat.{ℕ, zero, suc, _+_, _-_, _≤_, _<_}
 use native.Mathlib.Omega.{arith}
 use native.Mathlib.Nat.{add-zero}
-use native.Mathlib.Nat.{zero-add}
-use lib.Dec.{eqb, ltb}
-use lib.ListN.{length, drop, getD, replicate, length-append, length-replicate, getD-replicate, List·getD-append}
+use lib.Dec.{ltb}
+use lib.ListN.{length, getD, replicate, length-append, length-replicate, getD-replicate, List·getD-append}
 use lib.Seq.{getD-drop, drop-at}
-use Rattle.laws.specs.Bytes.{put, filled}
-use Rattle.laws.proofs.Bytes.{put-length, filled-length}
-use Rattle.laws.proofs.Places.{put-before, put-in}
+use Rattle.laws.specs.Bytes.{filled}
+use Rattle.laws.proofs.Bytes.{filled-length}
+use Rattle.laws.proofs.Places.{put-in}
 use Rattle.laws.proofs.Split.{by-lt, and-true}
 use Rattle.board.specs.Layout.{optionsFrom, optionBytes, memoryBytes}
 use Rattle.request.specs.Request.{transferBytes}

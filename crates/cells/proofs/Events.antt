@@ -1,46 +1,39 @@
 -- An event moves every board as it moves the work area, and falls on a board of zeros where it falls there. Assumes nothing.
-use mathlib.Core.Path.{_≡_, refl, ap, ap₂, _∙_, sym}
-use mathlib.Core.Bool.{Bool, true, false, cond, not, _&&_, _||_, true≢false, false≢true}
-use mathlib.Core.Logic.{_⊎_, inl, inr}
+use mathlib.Core.Path.{_≡_, refl, ap, _∙_, sym}
+use mathlib.Core.Bool.{Bool, true, false, _&&_}
+use mathlib.Core.Logic.{inl}
 use mathlib.Core.List.{List, [], _∷_}
 use Prim.Native.Nat.{ℕ, _+_, _-_, _≤_, _<_}
 use native.Mathlib.Omega.{arith}
 use native.Mathlib.Nat.{min-le-right}
 use lib.Dec.{T, eqb}
 use lib.ListN.{length, take, drop, getD, length-take, length-drop}
-use lib.Seq.{length-take-le}
-use borrow.Author.Tests.{eqb-true, eq-eqb}
+use borrow.Author.Tests.{eq-eqb}
 use Rattle.laws.specs.Bytes.{put}
 use Rattle.laws.proofs.Append.{take-put, part-put}
 use Rattle.laws.proofs.Bytes.{put-length, take-at-most}
-use Rattle.laws.proofs.Split.{by-bool}
 use Rattle.board.specs.Layout.{optionsFrom, memoryBytes}
 use Rattle.board.specs.Protection.{readProtected}
-use Rattle.request.specs.declared.Setup.{Setup}
-use Rattle.request.specs.declared.Request.{Request}
-use Rattle.request.specs.declared.Request.the-variants.{Download, Upload, GetStatus, GetState}
+use Rattle.request.specs.declared.Request.the-variants.{Download}
 use Rattle.request.specs.Request.{transferBytes, requestOf}
 use Rattle.request.specs.Setup.{setupOf, dataLength, fitsOf}
 use Rattle.request.proofs.Known.{download-brings}
-use Rattle.request.proofs.Lengths.{fits-eight, fits-data}
+use Rattle.request.proofs.Lengths.{fits-data}
 use Rattle.device.specs.declared.Mode.the-variants.{Idle, ManifestSync, UploadIdle}
-use Rattle.device.specs.declared.Pending.{Pending}
 use Rattle.device.specs.declared.Pending.the-variants.{Nothing, SetPointer, ErasePage, MassErase, ReadUnprotect, Write}
 use Rattle.device.specs.declared.Device.{Device}
-use Rattle.device.specs.declared.Ran.{Ran}
 use Rattle.device.specs.Wire.{wireOf}
-use Rattle.device.specs.State.{started, idled, entered, afterStatus, reportOf}
+use Rattle.device.specs.State.{started, idled, entered, reportOf}
 use Rattle.device.specs.WellFormed.{wellFormed}
 use Rattle.device.proofs.Form.{Form, well-formed, after-status-none}
 use Rattle.decision.specs.declared.Command.{Command}
 use Rattle.decision.specs.declared.Decision.{Decision}
 use Rattle.decision.specs.declared.Decision.the-variants as decided
 use Rattle.decision.specs.Decide.{commandOf, decideOf, waiting}
-use Rattle.decision.proofs.Cases.{Taken, Cases, decide-case}
+use Rattle.decision.proofs.Cases.{decide-case}
 use Rattle.action.specs.declared.Access.{Access}
 use Rattle.action.specs.declared.Access.the-variants.{Denied, InFlash, InRam, InOptions}
 use Rattle.action.specs.Access.{accessOf, blockAddress}
-use Rattle.action.proofs.Spans.{Granted, access-granted}
 use Rattle.loader.specs.declared.Event.the-variants as event
 use Rattle.loader.specs.declared.Answer.the-variants.{Accepted}
 use Rattle.loader.specs.Answer.{Outcome, outcome}
@@ -48,12 +41,11 @@ use Rattle.loader.specs.Serve.{InOrder, runOf, statusBytes, statusOf, readAt, r
 use Rattle.loader.specs.Step.{admittedOf, stepOf}
 use Rattle.job.specs.Event.{Event, attach, request}
 use Rattle.verdict.specs.World.{World, worldOf, steppedOf, fails, asksStatus, isGetStatus}
-use Rattle.verdict.specs.Checked.{workBytes}
-use Rattle.cells.specs.Cells.{known, blockFrom, blockOf, Moved, falls, goes, readMoves, readsMoves, statusMoves, decisionMoves, requestMoves, moves}
+use Rattle.cells.specs.Cells.{known, blockFrom, blockOf, falls, goes, readMoves, readsMoves, statusMoves, decisionMoves, requestMoves, moves}
 use Rattle.cells.proofs.Likeness.{Alike}
 use Rattle.cells.proofs.Learnt.{put-outside}
 use Rattle.cells.proofs.Actions.{protection-same}
-use Rattle.cells.proofs.Moves.{Held, Ran′, goes-device, goes-work, falls-not, status-goes, status-falls}
+use Rattle.cells.proofs.Moves.{Held, goes-device, goes-work, falls-not, status-goes, status-falls}
 
 -- a board that began with memory m₀ stands where the device d and the work area w say
 pub record Stands (n : ℕ) (m₀ : List ℕ) (x : World) (d : Device) (w : List ℕ) : Type 0 where

@@ -1,14 +1,14 @@
 -- The verdict that the work area gives is the verdict of all boards. Assumes nothing.
-use mathlib.Core.Path.{_≡_, refl, ap, ap₂, _∙_, sym}
-use mathlib.Core.Bool.{Bool, true, false, cond, not, _&&_, true≢false, false≢true}
-use mathlib.Core.List.{List, [], _∷_}
+use mathlib.Core.Path.{_≡_, refl, ap, _∙_, sym}
+use mathlib.Core.Bool.{Bool, true, false, _&&_}
+use mathlib.Core.List.{List}
 use Prim.Native.Nat.{ℕ, zero, suc, _+_, _-_, _≤_, _<_}
 use native.Mathlib.Omega.{arith}
-use native.Mathlib.Nat.{zero-add, not-suc-le-zero}
+use native.Mathlib.Nat.{zero-add}
 use lib.Dec.{eqb, ltb}
-use lib.ListN.{length, take, drop, getD, length-take, length-drop}
+use lib.ListN.{length, take, drop, getD, length-drop}
 use lib.Seq.{ext-getD, getD-take, getD-drop, length-take-le}
-use borrow.Author.Tests.{eqb-true, eqb-false, eq-eqb, ne-eqb, ltb-true, ltb-false, lt-ltb, le-ltb, not-true, not-false}
+use borrow.Author.Tests.{eqb-false, eq-eqb, ne-eqb, ltb-true, ltb-false, not-true, not-false}
 use Rattle.laws.proofs.Split.{by-bool, by-lt, by-eq, and-true}
 use Rattle.board.specs.Layout.{flashBytes, optionsFrom, optionBytes, memoryBytes}
 use Rattle.device.specs.declared.Device.{Device}
@@ -16,13 +16,12 @@ use Rattle.device.specs.State.{started}
 use Rattle.loader.proofs.Form.{started-form}
 use Rattle.hex.specs.Hex.{allBytes}
 use Rattle.job.specs.Event.{Event, same}
-use Rattle.verdict.specs.declared.Verdict.{Verdict}
 use Rattle.verdict.specs.declared.Verdict.the-variants as verdict
 use Rattle.verdict.specs.World.{World, Fresh, after, failsAt}
-use Rattle.verdict.specs.Verdict.{endFails, endFault, pagesEnd, wantedAt, wrongAt, OnSome, OnNone, Least, RunsClean, EndsWell, FlashRight, Judged}
+use Rattle.verdict.specs.Verdict.{endFails, endFault, pagesEnd, wantedAt, wrongAt, OnSome, OnNone, RunsClean, EndsWell, Judged}
 use Rattle.verdict.specs.Checked.{workBytes}
-use Rattle.cells.specs.Cells.{known, begun, Over, fell, ended, overOf, suspect, lowestFrom, flashVerdict, endNumber, endVerdict, overVerdict, verdictOf}
-use Rattle.cells.proofs.Likeness.{Alike, cellOf}
+use Rattle.cells.specs.Cells.{known, begun, Over, fell, ended, overOf, suspect, lowestFrom, flashVerdict, endNumber, endVerdict, verdictOf}
+use Rattle.cells.proofs.Likeness.{cellOf}
 use Rattle.cells.proofs.Events.{Stands}
 use Rattle.cells.proofs.Runs.{AllFit, run-ends, run-before, run-falls, fell-above}
 use Rattle.cells.proofs.Boards.{fresh-stands, plain, plain-fresh, plain-byte}

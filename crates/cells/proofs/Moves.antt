@@ -1,45 +1,38 @@
 -- An event moves every board as it moves the device and the work area. Assumes nothing.
-use mathlib.Core.Path.{_≡_, refl, ap, ap₂, _∙_, sym}
-use mathlib.Core.Bool.{Bool, true, false, cond, not, _&&_, _||_, true≢false, false≢true}
-use mathlib.Core.List.{List, [], _∷_}
-use Prim.Native.Nat.{ℕ, _+_, _-_, _≤_, _<_}
+use mathlib.Core.Path.{_≡_, refl, ap, _∙_, sym}
+use mathlib.Core.Bool.{Bool, true, false, true≢false}
+use mathlib.Core.List.{List}
+use Prim.Native.Nat.{ℕ, _<_}
 use native.Mathlib.Omega.{arith}
 use lib.Dec.{T, eqb}
-use lib.ListN.{length, take, drop, getD, length-drop}
-use borrow.Author.Tests.{eqb-true, eq-eqb}
-use Rattle.laws.specs.Bytes.{put}
-use Rattle.laws.proofs.Bytes.{put-length}
+use lib.ListN.{take, getD}
+use borrow.Author.Tests.{eqb-true}
 use Rattle.laws.proofs.Split.{by-bool}
-use Rattle.board.specs.Layout.{optionsFrom, memoryBytes}
+use Rattle.board.specs.Layout.{optionsFrom}
 use Rattle.board.specs.declared.Place.{Place}
 use Rattle.board.specs.declared.Place.the-variants.{Flash, Ram, Options, Outside}
 use Rattle.board.specs.Span.{placeOf}
 use Rattle.board.specs.Protection.{readProtected}
-use Rattle.request.specs.declared.Setup.{Setup}
-use Rattle.request.specs.Request.{transferBytes, requestOf}
-use Rattle.request.specs.Setup.{setupOf, fitsOf}
 use Rattle.device.specs.declared.Pending.{Pending}
 use Rattle.device.specs.declared.Pending.the-variants.{Nothing, SetPointer, ErasePage, MassErase, ReadUnprotect, Write}
 use Rattle.device.specs.declared.Device.{Device}
 use Rattle.device.specs.declared.Ran.{Ran}
 use Rattle.device.specs.Wire.{isMode}
-use Rattle.device.specs.State.{started, entered, afterStatus, reportOf}
-use Rattle.device.specs.WellFormed.{inRegion, wellFormed}
+use Rattle.device.specs.State.{afterStatus, reportOf}
+use Rattle.device.specs.WellFormed.{inRegion}
 use Rattle.device.proofs.Form.{Form, well-formed}
 use Rattle.action.specs.declared.Action.{Action}
-use Rattle.action.specs.declared.Action.the-variants.{Rest, Fail, Point, Erase, EraseAll, Unprotect, ClearRam, StoreFlash, StoreRam, StoreOptions}
 use Rattle.action.specs.declared.Access.{Access}
 use Rattle.action.specs.declared.Access.the-variants.{Denied, InFlash, InRam, InOptions}
 use Rattle.action.specs.Access.{accessOf, blockAddress}
-use Rattle.action.specs.Action.{storeAt, pointOf, eraseAt, eraseOf, actionIn, actionOf, ranOf}
-use Rattle.loader.specs.Perform.{Performed, performedOf, countOf}
+use Rattle.action.specs.Action.{storeAt, eraseAt, actionIn, actionOf, ranOf}
+use Rattle.loader.specs.Perform.{performedOf, countOf}
 use Rattle.loader.specs.Serve.{Run, run, runOf}
 use Rattle.loader.proofs.Bounds.{Fits, action-fits}
-use Rattle.verdict.specs.Checked.{workBytes}
-use Rattle.cells.specs.Cells.{Moved, falls, goes, blockFrom, blockOf, workedOf, reports, runs, statusMoves}
+use Rattle.cells.specs.Cells.{falls, goes, blockOf, workedOf, reports, statusMoves}
 use Rattle.cells.proofs.Likeness.{Alike}
 use Rattle.cells.proofs.Actions.{protection-same}
-use Rattle.cells.proofs.Performs.{Performs, performs-well, performs-ill}
+use Rattle.cells.proofs.Performs.{performs-well, performs-ill}
 
 -- a pending write's bytes are in the board's block buffer and in the work area
 abbrev pub Held : ℕ → Pending → List ℕ → List ℕ → Type 0

@@ -1,25 +1,23 @@
 -- What an action does to every board, by what it does to the work area. Assumes nothing.
-use mathlib.Core.Path.{_≡_, refl, ap, ap₂, _∙_, sym}
-use mathlib.Core.Bool.{Bool, true, false, cond, true≢false, false≢true}
+use mathlib.Core.Path.{_≡_, refl}
+use mathlib.Core.Bool.{true, false, true≢false}
 use mathlib.Core.List.{List}
-use Prim.Native.Nat.{ℕ, _+_, _-_, _*_, _≤_, _<_}
+use Prim.Native.Nat.{ℕ, _+_, _≤_, _<_}
 use native.Mathlib.Omega.{arith}
-use native.Mathlib.Nat.{zero-add}
 use lib.Dec.{eqb}
-use lib.ListN.{length, take, drop, getD, length-drop, length-take}
+use lib.ListN.{length, take, drop, getD, length-drop}
 use lib.Seq.{length-take-le}
 use Rattle.laws.specs.Bytes.{put}
 use Rattle.laws.proofs.Split.{by-bool}
-use Rattle.board.specs.Layout.{pageBytes, flashBytes, optionsFrom, memoryBytes}
+use Rattle.board.specs.Layout.{optionsFrom, memoryBytes}
 use Rattle.board.specs.Protection.{wordOf}
 use Rattle.request.specs.Request.{transferBytes}
 use Rattle.action.specs.declared.Action.{Action}
 use Rattle.action.specs.declared.Action.the-variants.{Rest, Fail, Point, Erase, EraseAll, Unprotect, ClearRam, StoreFlash, StoreRam, StoreOptions}
-use Rattle.memory.specs.Flash.{blank, stored, erased, erasedAll}
-use Rattle.loader.specs.Perform.{performedOf, writtenOf, endOf, countOf}
+use Rattle.memory.specs.Flash.{blank}
+use Rattle.loader.specs.Perform.{performedOf, countOf}
 use Rattle.loader.proofs.Bounds.{Fits}
-use Rattle.verdict.specs.Checked.{workBytes}
-use Rattle.cells.specs.Cells.{known, learnt, blockFrom, surely, blockOf, writes, workedOf}
+use Rattle.cells.specs.Cells.{learnt, blockFrom, surely, blockOf, writes, workedOf}
 use Rattle.cells.proofs.Likeness.{Alike, learnt-alike}
 use Rattle.cells.proofs.Actions.{page-alike, all-alike, ram-alike, whole-alike, stored-alike, surely-known, surely-blank, surely-not, word-same}
 

@@ -1,19 +1,17 @@
 -- A job runs on every board as it runs over the work area. Assumes nothing.
 use mathlib.Core.Path.{_≡_, refl, ap, _∙_, sym}
-use mathlib.Core.Bool.{Bool, true, false}
+use mathlib.Core.Bool.{true, false}
 use mathlib.Core.List.{List, [], _∷_}
 use Prim.Native.Nat.{ℕ, zero, suc, _+_, _-_, _≤_, _<_}
 use native.Mathlib.Omega.{arith}
-use native.Mathlib.Nat.{not-suc-le-zero, le-of-suc-le-suc}
 use lib.Dec.{T}
 use lib.ListN.{getD}
 use Rattle.board.specs.Layout.{optionsFrom}
 use Rattle.device.specs.declared.Device.{Device}
 use Rattle.device.proofs.Form.{Form}
-use Rattle.job.specs.Event.{Event, attach, request}
+use Rattle.job.specs.Event.{Event}
 use Rattle.verdict.specs.World.{World, worldOf, steppedOf, after, fails, failsAt}
-use Rattle.cells.specs.Cells.{Moved, falls, goes, Over, fell, ended, onward, moves, overOf}
-use Rattle.cells.proofs.Moves.{Held, falls-not}
+use Rattle.cells.specs.Cells.{Moved, falls, goes, fell, ended, moves, overOf}
 use Rattle.cells.proofs.InForm.{moves-form}
 use Rattle.cells.proofs.Events.{Stands, Fitting, event-on, event-down}
 

@@ -1,7 +1,7 @@
 -- A device of the proof, which no public promise names: what is known of every board at once. The work area holds a value
 -- and a mark for each byte of memory, and a block. A mark of 1 says that every board holds that value; a byte without it is
 -- the board's own, as it was at the start. Assumes nothing.
-use mathlib.Core.Bool.{Bool, true, false, cond, not, _&&_}
+use mathlib.Core.Bool.{Bool, false, cond, not, _&&_}
 use mathlib.Core.List.{List, [], _∷_}
 use Prim.Native.Nat.{ℕ, zero, suc, _+_, _*_}
 use lib.Dec.{eqb, ltb}
@@ -18,7 +18,6 @@ use Rattle.device.specs.Wire.{errWRITE, isMode}
 use Rattle.device.specs.State.{started, entered, afterStatus, reportOf}
 use Rattle.decision.specs.declared.Decision.{Decision}
 use Rattle.decision.specs.declared.Decision.the-variants as decided
-use Rattle.decision.specs.declared.Command.{Command}
 use Rattle.decision.specs.Decide.{commandOf, decideOf}
 use Rattle.action.specs.declared.Access.{Access}
 use Rattle.action.specs.declared.Access.the-variants.{Denied, InFlash, InRam, InOptions}

@@ -8,11 +8,11 @@ use native.Mathlib.Numerals.{add-one}
 use lib.ListN.{length, take, drop, length-drop, drop-of-length-le}
 use lib.Seq.{length-take-le}
 use Rattle.request.specs.declared.Setup.{Setup}
-use Rattle.request.specs.Setup.{setupOf, dataLength}
+use Rattle.request.specs.Setup.{dataLength}
 use Rattle.device.specs.declared.Device.{Device}
 use Rattle.device.specs.State.{started}
 use Rattle.device.specs.WellFormed.{wellFormed}
-use Rattle.device.proofs.Form.{Form, form-of, well-formed}
+use Rattle.device.proofs.Form.{form-of, well-formed}
 use Rattle.hex.specs.Hex.{allDigits, bytesOf}
 use Rattle.job.specs.declared.Item.the-variants as item
 use Rattle.job.specs.Event.{Event, attach, request, proper, textOf}
@@ -20,7 +20,7 @@ use Rattle.job.specs.Text.{firstLine, linesOf, eventsIn, eventsOf}
 use Rattle.job.specs.Text as text
 use Rattle.job.specs.Calls.{itemOf}
 use Rattle.job.proofs.EventText.{text-events}
-use Rattle.job.proofs.WalkEvents.{Beyond, Attached, Requested, formed-here, end-tells, bad-never, attach-tells, request-tells}
+use Rattle.job.proofs.WalkEvents.{Beyond, Requested, formed-here, end-tells, bad-never, attach-tells, request-tells}
 use Rattle.cells.specs.Cells.{Over, fell, ended, falls, goes, requestMoves, moves, overOf}
 use Rattle.cells.proofs.InForm.{moves-form}
 use Rattle.checker.specs.declared.Step.{Step}

@@ -1,16 +1,14 @@
 -- Laws in the terms in which the checker's functions meet them. Assumes nothing.
-use mathlib.Core.Path.{_≡_, refl, ap, _∙_, sym}
-use mathlib.Core.Bool.{Bool, true, false, cond, _&&_}
-use mathlib.Core.List.{List, [], _∷_, _++_}
-use Prim.Native.Nat.{ℕ, _+_, _-_, _*_, _/_, _≤_, _<_}
+use mathlib.Core.Path.{_≡_, ap, _∙_}
+use mathlib.Core.Bool.{Bool, true, false}
+use mathlib.Core.List.{List, _++_}
+use Prim.Native.Nat.{ℕ, _+_, _-_, _/_, _≤_}
 use native.Mathlib.Omega.{arith}
-use native.Mathlib.Nat.{zero-add}
-use lib.Dec.{eqb}
-use lib.ListN.{length, take, drop, getD, replicate, length-take, length-drop, List·getD-eq-default}
+use lib.ListN.{length, drop, getD, length-drop, List·getD-eq-default}
 use lib.Seq.{length-take-le}
-use borrow.Author.Tests.{ne-eqb, eq-eqb}
-use Rattle.laws.specs.Bytes.{put, filled}
-use Rattle.board.specs.Layout.{memoryBytes, ramFrom, ramBytes}
+use borrow.Author.Tests.{ne-eqb}
+use Rattle.laws.specs.Bytes.{put}
+use Rattle.board.specs.Layout.{memoryBytes}
 use Rattle.board.specs.Protection.{readProtected}
 use Rattle.request.specs.declared.Setup.{Setup}
 use Rattle.request.specs.Request.{transferBytes}
@@ -29,8 +27,7 @@ use Rattle.memory.specs.Whole.{unprotected}
 use Rattle.hex.specs.Hex.{bytesOf}
 use Rattle.hex.proofs.Fields.{bytes-length}
 use Rattle.verdict.specs.Checked.{workBytes}
-use Rattle.cells.specs.Cells.{blockFrom, blockOf, marked, learnt, surely, Worked, worked, workedOf, writes, Moved, reports, runs, statusMoves, readMoves, readsMoves, decisionMoves, requestMoves}
-use Rattle.checker.proofs.Loops.{learnt-is}
+use Rattle.cells.specs.Cells.{blockFrom, blockOf, marked, learnt, surely, Worked, worked, workedOf, writes, reports, statusMoves, readMoves, readsMoves, decisionMoves, requestMoves}
 
 -- the erased test on every board, by its two halves
 module _ (n word at count : ℕ) (w : List ℕ) where

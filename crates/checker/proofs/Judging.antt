@@ -1,14 +1,10 @@
 -- The call from end to end: its refusals, and the verdict of what they let through. Assumes nothing.
 use mathlib.Core.Path.{_≡_, refl, ap, _∙_, sym}
-use mathlib.Core.Bool.{Bool, true, false, cond, not, false≢true}
+use mathlib.Core.Bool.{true}
 use mathlib.Core.List.{List, [], _∷_}
-use Prim.Native.Nat.{ℕ, zero, suc, _≤_, _<_}
-use native.Mathlib.Omega.{arith}
-use lib.Dec.{eqb, ltb}
-use lib.ListN.{length, drop, getD}
-use borrow.Author.Tests.{eq-eqb, ne-eqb, eqb-true, lt-ltb, le-ltb}
-use Rattle.laws.proofs.Split.{by-bool}
-use Rattle.board.specs.Layout.{flashBytes, optionBytes}
+use Prim.Native.Nat.{ℕ, _≤_}
+use lib.ListN.{length}
+use borrow.Author.Tests.{eq-eqb, ne-eqb}
 use Rattle.refusal.specs.declared.Refusal.{Refusal}
 use Rattle.refusal.specs.declared.Refusal.the-variants as refusal
 use Rattle.device.specs.declared.Device.{Device}
@@ -27,7 +23,7 @@ use Rattle.verdict.specs.declared.Verdict.{Verdict}
 use Rattle.verdict.specs.declared.Verdict.the-variants as verdict
 use Rattle.verdict.specs.Checked.{workBytes, supplied, readable, then, checkable, Checked}
 use Rattle.verdict.proofs.Supply.{Checkable, checkable-parts}
-use Rattle.cells.specs.Cells.{Over, fell, ended, overOf, endVerdict, overVerdict, begun, verdictOf}
+use Rattle.cells.specs.Cells.{overOf, endVerdict, overVerdict, begun, verdictOf}
 use Rattle.cells.proofs.Events.{Fitting}
 use Rattle.cells.proofs.Runs.{AllFit}
 use Rattle.cells.proofs.Judgement.{judged}

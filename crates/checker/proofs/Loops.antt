@@ -1,13 +1,13 @@
 -- One turn of each loop over the work area. Assumes nothing.
-use mathlib.Core.Path.{_≡_, refl, ap, _∙_, sym}
-use mathlib.Core.Bool.{Bool, true, false, cond}
+use mathlib.Core.Path.{_≡_, ap, _∙_, sym}
+use mathlib.Core.Bool.{Bool, true, false}
 use mathlib.Core.List.{List}
-use Prim.Native.Nat.{ℕ, zero, suc, _+_, _-_, _*_, _≤_, _<_}
+use Prim.Native.Nat.{ℕ, suc, _+_, _-_, _*_, _≤_, _<_}
 use native.Mathlib.Omega.{arith}
 use native.Mathlib.Nat.{add-assoc}
 use native.Mathlib.Numerals.{add-one}
 use lib.ListN.{length, take, drop, getD, set, replicate, length-drop, length-replicate}
-use lib.Seq.{drop-cons, drop-set-lt, getD-take, getD-drop, length-take-le, sets}
+use lib.Seq.{drop-set-lt, getD-take, getD-drop, length-take-le, sets}
 use Rattle.laws.specs.Bytes.{put, filled}
 use Rattle.laws.proofs.Bytes.{sets-turn, sets-end, sets-put}
 use Rattle.board.specs.Layout.{pageBytes, memoryBytes}

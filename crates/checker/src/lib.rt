@@ -1,12 +1,12 @@
 // The job checker: it runs a job on every board at once. The work area holds what is known of all of
 // them, a value and a mark for each byte of memory, and the block that waits to be written.
 ghost use mathlib.Core.Path.{_≡_};
-ghost use mathlib.Core.Bool.{true, false, not, _&&_};
+ghost use mathlib.Core.Bool.{true, not, _&&_};
 ghost use lib.Dec.{eqb, leb};
 ghost use mathlib.Core.List.{List};
-ghost use Prim.Native.Nat.{ℕ, _+_, _-_, _*_, _/_, _≤_, _<_};
+ghost use Prim.Native.Nat.{ℕ, _+_, _-_, _*_, _≤_, _<_};
 ghost use lib.ListN.{length, drop, getD, replicate};
-ghost use Rattle.laws.specs.Bytes.{put, filled};
+ghost use Rattle.laws.specs.Bytes.{put};
 ghost use Rattle.board.specs.Layout.{loggerPages, pageBytes, flashBytes, ramFrom, ramBytes, optionBytes, memoryBytes};
 ghost use Rattle.board.specs.Protection.{anyProtected};
 ghost use Rattle.request.specs.Request.{transferBytes};

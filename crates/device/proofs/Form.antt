@@ -1,11 +1,10 @@
 -- Each way from one state to the next keeps it well formed. Assumes nothing.
-use mathlib.Core.Path.{_≡_, refl, ap, _∙_, sym}
-use mathlib.Core.Bool.{Bool, true, false, cond, not, _&&_, false≢true}
+use mathlib.Core.Path.{_≡_, refl, _∙_, sym}
+use mathlib.Core.Bool.{true, false, _&&_, false≢true}
 use Prim.Native.Nat.{ℕ}
 use lib.Dec.{eqb}
 use borrow.Author.Tests.{eqb-true}
 use Rattle.laws.proofs.Split.{by-bool, and-true}
-use Rattle.board.specs.Layout.{flashFirst}
 use Rattle.request.specs.declared.Request.the-variants.{Download, Upload}
 use Rattle.device.specs.declared.Mode.{Mode}
 use Rattle.device.specs.declared.Mode.the-variants.{Idle, DownloadSync, DownloadBusy, DownloadIdle, ManifestSync, UploadIdle, Error, Left, Rebooting}
@@ -15,7 +14,7 @@ use Rattle.device.specs.declared.Device.{Device}
 use Rattle.device.specs.declared.Ran.{Ran}
 use Rattle.device.specs.Wire.{wireOf, isMode}
 use Rattle.device.specs.Table.{allowedOf}
-use Rattle.device.specs.State.{started, idled, failed, stalled, entered, finished, afterStatus}
+use Rattle.device.specs.State.{idled, failed, stalled, entered, finished, afterStatus}
 use Rattle.device.specs.WellFormed.{inRegion, writeFits, pendingFits, statusFits, wellFormed}
 
 -- well-formedness, by its parts

@@ -1,6 +1,5 @@
 -- Laws of `admittedOf` and `stepOf`: what each admission comes to, and that an admitted request is in order. Assumes nothing.
-use mathlib.Core.Path.{_≡_, refl, ap, _∙_, sym}
-use mathlib.Core.Bool.{Bool, true, false, cond, not}
+use mathlib.Core.Path.{_≡_}
 use mathlib.Core.List.{List}
 use Prim.Native.Nat.{ℕ}
 use native.Mathlib.Omega.{arith}
@@ -20,7 +19,7 @@ use Rattle.loader.specs.declared.Event.the-variants as event
 use Rattle.loader.specs.declared.Answer.the-variants.{Accepted}
 use Rattle.loader.specs.declared.Admission.{Admission}
 use Rattle.loader.specs.declared.Admission.the-variants as admission
-use Rattle.loader.specs.Answer.{Outcome, outcome}
+use Rattle.loader.specs.Answer.{outcome}
 use Rattle.loader.specs.Serve.{InOrder, serveOf}
 use Rattle.loader.specs.Step.{sizesOf, admittedOf, steps, stepOf}
 

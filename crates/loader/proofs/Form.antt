@@ -1,8 +1,8 @@
 -- A step from a well-formed state leads to one. Assumes nothing.
-use mathlib.Core.Path.{_≡_, refl, ap, _∙_, sym}
-use mathlib.Core.Bool.{Bool, true, false, cond, _&&_, false≢true, true≢false}
+use mathlib.Core.Path.{_≡_, refl}
+use mathlib.Core.Bool.{Bool, true, false, _&&_, true≢false}
 use mathlib.Core.List.{List}
-use Prim.Native.Nat.{ℕ, suc, _+_, _-_, _*_, _≤_, _<_}
+use Prim.Native.Nat.{ℕ, _≤_}
 use native.Mathlib.Omega.{arith}
 use lib.Dec.{T, eqb, ltb}
 use lib.ListN.{length, take, drop}
@@ -10,20 +10,18 @@ use borrow.Author.Tests.{le-leb}
 use Rattle.laws.proofs.Split.{by-bool}
 use Rattle.board.specs.declared.Place.{Place}
 use Rattle.board.specs.declared.Place.the-variants.{Flash, Ram, Options, Outside}
-use Rattle.board.specs.Layout.{flashFirst, flashBytes, optionsFrom, optionBytes}
+use Rattle.board.specs.Layout.{flashBytes, optionsFrom, optionBytes}
 use Rattle.board.specs.Protection.{readProtected, wordOf}
 use Rattle.board.specs.Span.{spans, placeOf}
 use Rattle.request.specs.Setup.{setupOf}
-use Rattle.device.specs.declared.Mode.{Mode}
 use Rattle.device.specs.declared.Mode.the-variants.{UploadIdle, Error}
 use Rattle.device.specs.declared.Pending.{Pending}
 use Rattle.device.specs.declared.Pending.the-variants.{Nothing, SetPointer, ErasePage, MassErase, ReadUnprotect, Write}
 use Rattle.device.specs.declared.Device.{Device}
-use Rattle.device.specs.declared.Ran.{Ran}
 use Rattle.device.specs.Wire.{isMode}
-use Rattle.device.specs.State.{started, stalled, entered}
-use Rattle.device.specs.WellFormed.{inRegion, statusFits, wellFormed}
-use Rattle.device.proofs.Form.{Form, Sane, Calm, form-of, well-formed, stalled-form, entered-form, after-status-form, upload-calm}
+use Rattle.device.specs.State.{started}
+use Rattle.device.specs.WellFormed.{inRegion, statusFits}
+use Rattle.device.proofs.Form.{Form, Sane, Calm, stalled-form, entered-form, after-status-form}
 use Rattle.decision.specs.declared.Decision.{Decision}
 use Rattle.decision.specs.declared.Decision.the-variants as decided
 use Rattle.decision.specs.Decide.{commandOf, decideOf}
@@ -33,16 +31,15 @@ use Rattle.action.specs.declared.Access.the-variants.{Denied, InFlash, InRam, I
 use Rattle.action.specs.declared.Action.{Action}
 use Rattle.action.specs.declared.Action.the-variants.{Rest, Fail, Point, Erase, EraseAll, Unprotect, ClearRam, StoreFlash, StoreRam, StoreOptions}
 use Rattle.action.specs.Access.{checkedOf, accessOf, blockAddress}
-use Rattle.action.specs.Action.{pointOf, eraseAt, eraseOf, storeAt, actionIn, actionOf, movedOf, rebootsOf, ranOf}
+use Rattle.action.specs.Action.{pointOf, eraseAt, storeAt, actionIn, actionOf, movedOf, ranOf}
 use Rattle.memory.specs.Flash.{blank}
 use Rattle.loader.specs.declared.Event.{Event}
 use Rattle.loader.specs.declared.Event.the-variants as event
 use Rattle.loader.specs.declared.Admission.{Admission}
 use Rattle.loader.specs.declared.Admission.the-variants as admission
-use Rattle.loader.specs.Answer.{Outcome}
-use Rattle.loader.specs.Perform.{performedOf, writtenOf}
-use Rattle.loader.specs.Serve.{Run, runOf, statusOf, readAt, readOf, actedOf, serveOf}
-use Rattle.loader.specs.Step.{sizesOf, admittedOf, happens, steps, stepOf}
+use Rattle.loader.specs.Perform.{performedOf}
+use Rattle.loader.specs.Serve.{runOf, statusOf, readAt, readOf, actedOf, serveOf}
+use Rattle.loader.specs.Step.{sizesOf, admittedOf, steps, stepOf}
 
 -- an action whose own status is one of the error mode's, and whose pointer lies in a region
 abbrev pub Proper : ℕ → Action → Type 0

@@ -1,14 +1,12 @@
 -- The refusal that a step gives is the first that applies. Assumes nothing.
-use mathlib.Core.Path.{_≡_, refl, ap, _∙_, sym}
-use mathlib.Core.Bool.{Bool, true, false, cond, not}
+use mathlib.Core.Path.{_≡_, refl}
+use mathlib.Core.Bool.{Bool, true, false}
 use mathlib.Core.List.{List}
 use Prim.Native.Nat.{ℕ, _+_, _<_}
 use native.Mathlib.Omega.{arith}
 use lib.Dec.{eqb}
-use borrow.Author.Tests.{ne-eqb}
 use Rattle.laws.proofs.Split.{by-bool, by-eq}
 use Rattle.board.specs.Layout.{memoryBytes}
-use Rattle.refusal.specs.declared.Refusal.{Refusal}
 use Rattle.refusal.specs.Refusal.{numberOf}
 use Rattle.request.specs.Request.{transferBytes}
 use Rattle.request.specs.Setup.{fitsOf}
@@ -19,7 +17,7 @@ use Rattle.loader.specs.declared.Event.the-variants as event
 use Rattle.loader.specs.declared.Sizes.{Sizes}
 use Rattle.loader.specs.declared.Admission.{Admission}
 use Rattle.loader.specs.declared.Admission.the-variants as admission
-use Rattle.loader.specs.Faults.{misfits, faultOf}
+use Rattle.loader.specs.Faults.{faultOf}
 use Rattle.loader.specs.Step.{admittedIn, admittedOf}
 
 -- row k applies, and no row before it

@@ -5,8 +5,6 @@ use mathlib.Core.List.{List}
 use Prim.Native.Nat.{ℕ}
 use lib.Dec.{eqb}
 use lib.ListN.{getD}
-use Rattle.refusal.specs.declared.Refusal.{Refusal}
-use Rattle.refusal.specs.Refusal.{numberOf, lineOf}
 use Rattle.refusal.proofs.Numbers.{refusalAt, refusal-back}
 use Rattle.device.specs.declared.Device.{Device}
 use Rattle.loader.specs.declared.Answer.{Answer}

@@ -1,5 +1,5 @@
 -- Laws of `runOf`, `statusOf`, `readOf` and `serveOf`, in the terms in which the code meets them. Assumes nothing.
-use mathlib.Core.Path.{_≡_, refl, ap, _∙_, sym}
+use mathlib.Core.Path.{_≡_, ap, _∙_}
 use mathlib.Core.Bool.{Bool, true, false}
 use mathlib.Core.List.{List}
 use Prim.Native.Nat.{ℕ, _+_, _-_, _≤_}
@@ -28,9 +28,9 @@ use Rattle.action.specs.Access.{accessOf, blockAddress}
 use Rattle.action.specs.Action.{actionOf, ranOf}
 use Rattle.action.proofs.Spans.{Granted, access-granted}
 use Rattle.loader.specs.declared.Answer.the-variants.{Reply}
-use Rattle.loader.specs.Answer.{Outcome, outcome}
+use Rattle.loader.specs.Answer.{outcome}
 use Rattle.loader.specs.Perform.{Performed, performed, performedOf}
-use Rattle.loader.specs.Serve.{Run, run, runOf, performs, statusBytes, reported, statusOf, readAt, readOf, actedOf, serveOf}
+use Rattle.loader.specs.Serve.{Run, run, runOf, statusBytes, reported, statusOf, readAt, readOf, actedOf, serveOf}
 
 -- nothing runs outside mode 3
 pub run-rests : (n : ℕ) (d : Device) (b m : List ℕ) → isMode 3 (d .mode) ≡ false → run (record { status = 0; pointer = d .pointer; reboots = false }) m ≡ runOf n d b m

@@ -1,5 +1,5 @@
 -- What demands 1 and 2 say of a step, for a reader who takes `stepOf` from specs/ as what document 01 says. Assumes nothing.
-use mathlib.Core.Path.{_≡_, _∙_, sym, ap}
+use mathlib.Core.Path.{_≡_, _∙_, sym}
 use mathlib.Core.Bool.{true, false}
 use mathlib.Core.List.{List}
 use Prim.Native.Nat.{ℕ, _≤_, _<_}
@@ -13,11 +13,11 @@ use Rattle.loader.specs.declared.Event.{Event}
 use Rattle.loader.specs.declared.Stepped.{Stepped}
 use Rattle.loader.specs.declared.Answer.the-variants as answer
 use Rattle.loader.specs.declared.Admission.the-variants as admission
-use Rattle.loader.specs.Answer.{Outcome, outcome, left}
+use Rattle.loader.specs.Answer.{outcome, left}
 use Rattle.loader.specs.Faults.{faultOf}
-use Rattle.loader.specs.Step.{sizesOf, admittedOf, steps, stepOf}
+use Rattle.loader.specs.Step.{sizesOf, admittedOf, stepOf}
 use Rattle.loader.proofs.Outcomes.{left-stepped, left-memory, left-block, left-reply}
-use Rattle.loader.proofs.Order.{First, Refuses, admitted-refuses}
+use Rattle.loader.proofs.Order.{First, admitted-refuses}
 use Rattle.loader.proofs.Form.{step-form}
 
 -- what the promise of `step` allows, for one call

@@ -28,7 +28,7 @@ use Rattle.action.specs.Access.{accessOf, blockAddress}
 use Rattle.action.specs.Action.{actionOf, ranOf}
 use Rattle.loader.specs.declared.Answer.the-variants.{Accepted, Reply, Stall, Silent}
 use Rattle.loader.specs.Answer.{Outcome, outcome}
-use Rattle.loader.specs.Perform.{Performed, performedOf}
+use Rattle.loader.specs.Perform.{performedOf}
 
 -- "The poll time is 100 when mode 4 is reported, else 0"
 abbrev pub pollOf : ℕ → ℕ

@@ -1,11 +1,10 @@
 -- One event. Document 01, "Events" and the rows of "Refusal numbers" that name step. Assumes nothing.
-use mathlib.Core.Bool.{Bool, cond, not}
+use mathlib.Core.Bool.{cond, not}
 use mathlib.Core.List.{List}
 use Prim.Native.Nat.{ℕ}
 use lib.Dec.{eqb}
 use lib.ListN.{length}
 use Rattle.board.specs.Layout.{memoryBytes}
-use Rattle.refusal.specs.declared.Refusal.{Refusal}
 use Rattle.refusal.specs.declared.Refusal.the-variants as refusal
 use Rattle.request.specs.Request.{transferBytes}
 use Rattle.request.specs.Setup.{fitsOf}

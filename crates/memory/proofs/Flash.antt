@@ -1,14 +1,14 @@
 -- Laws of `each`, `stored` and `erased`: a turn of each loop, its end, and lengths. Assumes nothing.
-use mathlib.Core.Path.{_≡_, refl, ap, _∙_, sym}
-use mathlib.Core.Bool.{Bool, true, false, cond, _&&_, _||_}
+use mathlib.Core.Path.{_≡_, _∙_, sym}
+use mathlib.Core.Bool.{true, false, cond, _&&_, _||_}
 use mathlib.Core.List.{List, [], _∷_, _++_}
-use Prim.Native.Nat.{ℕ, zero, suc, _+_, _-_, _*_, _≤_, _<_}
+use Prim.Native.Nat.{ℕ, suc, _+_, _-_, _*_, _≤_, _<_}
 use native.Mathlib.Omega.{arith}
 use native.Mathlib.Nat.{add-assoc}
 use native.Mathlib.Numerals.{add-one}
 use lib.Dec.{eqb}
 use borrow.Author.Tests.{eq-eqb, ne-eqb}
-use lib.ListN.{length, take, drop, getD, set, length-set, take-append-drop, drop-of-length-le}
+use lib.ListN.{length, take, drop, getD, set, take-append-drop, drop-of-length-le}
 use lib.Seq.{drop-cons, take-suc, take-suc-set, drop-set-lt, append-snoc}
 use Rattle.laws.specs.Bytes.{filled}
 use Rattle.laws.proofs.Split.{by-bool}

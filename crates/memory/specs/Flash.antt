@@ -1,7 +1,7 @@
 -- Erasing and writing flash under write protection. Document 01, the third read and write check and the paragraphs after it. Assumes nothing.
 use mathlib.Core.Bool.{Bool, true, cond, _&&_, _||_}
 use mathlib.Core.List.{List, [], _∷_, _++_}
-use Prim.Native.Nat.{ℕ, zero, suc, _+_, _*_, _/_}
+use Prim.Native.Nat.{ℕ, zero, suc, _*_, _/_}
 use lib.Dec.{eqb}
 use lib.ListN.{take, drop}
 use Rattle.laws.specs.Bytes.{filled}

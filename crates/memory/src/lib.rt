@@ -1,6 +1,6 @@
 // What commands do to a memory buffer: one action a function, and no decision in it.
 ghost use mathlib.Core.Path.{_≡_};
-ghost use Prim.Native.Nat.{_+_, _*_, _≤_, _<_};
+ghost use Prim.Native.Nat.{_+_, _*_, _≤_};
 ghost use lib.ListN.{length};
 ghost use Rattle.board.specs.Layout.{pageBytes, memoryBytes};
 ghost use Rattle.memory.specs.Flash.{blank, stored, erased, erasedAll};

@@ -1,6 +1,6 @@
 // Where two memories differ, in words.
 ghost use mathlib.Core.Path.{_≡_};
-ghost use Prim.Native.Nat.{_-_, _≤_, _<_};
+ghost use Prim.Native.Nat.{_-_, _≤_};
 ghost use Rattle.play_job.specs.Change.{firstOf};
 use board::Board;
 

@@ -1,24 +1,23 @@
 -- One verdict for one job, and what a pass means. Assumes nothing.
 use mathlib.Core.Path.{_≡_, refl, ap, _∙_, sym}
-use mathlib.Core.Bool.{Bool, true, false, cond, not, false≢true}
+use mathlib.Core.Bool.{Bool, false, false≢true}
 use mathlib.Core.List.{List}
 use Prim.Native.Nat.{ℕ, suc, _≤_, _<_}
 use native.Mathlib.Omega.{arith}
-use lib.Dec.{eqb, ltb}
-use lib.ListN.{length, drop, getD}
-use borrow.Author.Tests.{eq-eqb, ne-eqb, eqb-true, lt-ltb, le-ltb, not-true, not-false}
-use Rattle.laws.proofs.Split.{by-bool, by-eq, by-lt}
-use Rattle.board.specs.Layout.{flashFirst, flashBytes, optionsFrom}
+use lib.ListN.{length, getD}
+use borrow.Author.Tests.{eq-eqb, ne-eqb, eqb-true, lt-ltb, le-ltb, not-false}
+use Rattle.laws.proofs.Split.{by-eq, by-lt}
+use Rattle.board.specs.Layout.{flashFirst, flashBytes}
 use Rattle.refusal.specs.declared.Refusal.{Refusal}
 use Rattle.loader.specs.declared.Admission.{Admission}
 use Rattle.loader.specs.declared.Admission.the-variants as admission
-use Rattle.job.specs.Event.{Event, same}
+use Rattle.job.specs.Event.{Event}
 use Rattle.job.specs.Text.{eventsOf}
 use Rattle.job.proofs.FirstLine.{same-refl, same-eq}
 use Rattle.verdict.specs.declared.Verdict.{Verdict}
 use Rattle.verdict.specs.declared.Verdict.the-variants as verdict
 use Rattle.verdict.specs.World.{World, Fresh, after, failsAt}
-use Rattle.verdict.specs.Verdict.{isLeft, endFails, endFault, pagesEnd, wantedAt, wrongAt, OnSome, OnNone, Least, Judged}
+use Rattle.verdict.specs.Verdict.{endFails, endFault, pagesEnd, wantedAt, wrongAt, OnSome, OnNone, Least, Judged}
 use Rattle.verdict.specs.Checked.{checkable, Ruled, Checked}
 use Rattle.verdict.specs.Demand.{Works, AllWork}
 use Rattle.verdict.proofs.Supply.{checkable-parts}

@@ -6,7 +6,6 @@ use Prim.Native.Nat.{ℕ, suc, _+_, _-_, _*_, _/_, _<_}
 use lib.Dec.{eqb, ltb}
 use lib.ListN.{length, drop, getD}
 use Rattle.board.specs.Layout.{pageBytes, flashFirst, flashBytes, optionsFrom}
-use Rattle.refusal.specs.declared.Refusal.{Refusal}
 use Rattle.device.specs.declared.Device.{Device}
 use Rattle.device.specs.declared.Mode.{Mode}
 use Rattle.device.specs.declared.Mode.the-variants.{Idle, DownloadSync, DownloadBusy, DownloadIdle, ManifestSync, UploadIdle, Error, Left, Rebooting}

@@ -1,5 +1,5 @@
 -- `checker::admit` meets its contract. Assumes nothing.
-use mathlib.Core.Path.{_≡_, ap, _∙_, sym}
+use mathlib.Core.Path.{ap, _∙_, sym}
 use Prim.Native.Nat.{ℕ, _+_}
 use Rattle.request.specs.Request.{transferBytes}
 use Rattle.checker.proofs.Judging.{checkable-work, checkable-refused, checkable-readable}

@@ -2,7 +2,7 @@
 use native.Mathlib.Omega.{arith}
 use Rattle.checker.proofs.Alike.{are-turn, are-end}
 use Rattle.checker.specs.Walk.{allAre}
-use lib.ListN.{length, drop}
+use lib.ListN.{drop}
 use Prim.Native.Nat.{_-_, _≤_}
 use mathlib.Core.Bool.{_&&_}
 use mathlib.Core.Path.{_≡_, refl, sym, _∙_}
