@@ -1,7 +1,7 @@
 // The job checker: it runs a job on every board at once. The work area holds what is known of all of
 // them, a value and a mark for each byte of memory, and the block that waits to be written.
 ghost use mathlib.Core.Path.{_≡_};
-ghost use mathlib.Core.Bool.{true, not, _&&_};
+ghost use mathlib.Core.Bool.{true, false, not, _&&_};
 ghost use lib.Dec.{eqb, leb};
 ghost use mathlib.Core.List.{List};
 ghost use Prim.Native.Nat.{ℕ, _+_, _-_, _*_, _≤_, _<_};
@@ -479,7 +479,7 @@ fn is_suspect(board: Board, image: &[u8], work: &[u8], f: usize) -> bool
     if f < image.len() {
         return differs(mark, work[f], image[f]);
     }
-    if f < (image.len() + (Board::PAGE - 1)) / Board::PAGE * Board::PAGE {
+    if f < verdict::pages_of(image) * Board::PAGE {
         return differs(mark, work[f], 0xFF);
     }
     mark == 1
@@ -501,7 +501,7 @@ fn is_right(board: Board, image: &[u8], work: &[u8]) -> bool
     ensures { λ r. ⌜ (r ≡ true → flashBytes (board .pages) ≡ lowestFrom (suspect (board .pages) (now (image .entry)) (now (work .entry))) (flashBytes (board .pages)) 0) ⌝ }
 {
     let size = board.flash_bytes();
-    let end = (image.len() + (Board::PAGE - 1)) / Board::PAGE * Board::PAGE;
+    let end = verdict::pages_of(image) * Board::PAGE;
     if !same_bytes(&work[0..image.len()], image) {
         return false;
     }

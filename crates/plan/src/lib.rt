@@ -13,7 +13,6 @@ ghost use Rattle.board.specs.Layout.{loggerPages, pageBytes};
 ghost use Rattle.job.specs.Event.{request, lineOf};
 ghost use Rattle.job.specs.Calls.{left};
 ghost use Rattle.request.specs.Spelled.{four};
-ghost use Rattle.verdict.specs.Verdict.{pagesOf};
 ghost use Rattle.plan.specs.Plan.{download, getStatus, padded, planOf, barred, planned};
 ghost use Rattle.plan.specs.Parts.{polledText, pageText, leavingText, Laid, statusBytes, sentBytes, leavingBytes, paddedLength, pageLines, mostBytes};
 
@@ -32,13 +31,6 @@ const PAGE_LINES: usize = 200;
 
 const END_LINES: usize = 110;
 
-// How many pages the image takes.
-fn pages_of(image: &[u8]) -> usize
-    ensures { λ r. ⌜ r ≡ pagesOf (now (image .entry)) ⌝ }
-{
-    (image.len() + (Board::PAGE - 1)) / Board::PAGE
-}
-
 // Does the card keep the image from being written?
 fn barred(image: &[u8], card: &[u8]) -> bool
     ensures { λ r. ⌜ r ≡ barred (now (image .entry)) (now (card .entry)) ⌝ }
@@ -46,7 +38,7 @@ fn barred(image: &[u8], card: &[u8]) -> bool
     if board::locked(card, 0) {
         return true;
     }
-    board::any_protected(board::word(card, 0), pages_of(image))
+    board::any_protected(board::word(card, 0), verdict::pages_of(image))
 }
 
 // How many bytes a block of so many bytes of the image has: a single one gets a second.
@@ -61,7 +53,7 @@ fn size(image: &[u8]) -> usize
     requires { ⌜ length (now image) ≤ mostBytes ⌝ }
     ensures { λ r. ⌜ r ≡ length (planOf (now (image .entry))) ⌝ }
 {
-    let lines = pages_of(image) * PAGE_LINES + END_LINES;
+    let lines = verdict::pages_of(image) * PAGE_LINES + END_LINES;
     // the last page has a single byte, which gets a second
     if image.len() % Board::PAGE == 1 {
         return lines + (image.len() + 1) * 2;
@@ -148,7 +140,7 @@ fn write(image: &[u8], out: &mut [u8])
     requires { ⌜ (length (now image) ≤ mostBytes) × (length (planOf (now image)) ≤ length (now out)) ⌝ }
     ensures { λ _. ⌜ now (out .exit) ≡ put 0 (planOf (now (image .entry))) (now (out .entry)) ⌝ }
 {
-    let count = pages_of(image);
+    let count = verdict::pages_of(image);
     let mut number = 0;
     let mut at = 0;
     while number < count {

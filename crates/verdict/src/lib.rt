@@ -6,6 +6,7 @@ ghost use lib.ListN.{length};
 ghost use Rattle.laws.specs.Bytes.{put};
 ghost use Rattle.job.specs.Calls.{left, delivered};
 ghost use Rattle.verdict.specs.Checked.{supplied};
+ghost use Rattle.verdict.specs.Verdict.{pagesOf};
 ghost use Rattle.verdict.specs.Report.{wordOf, kindOf, numberOf, decimalOf, tab, reportOf};
 use board::Board;
 use job::Done;
@@ -42,6 +43,13 @@ pub fn supplied(board: Board, image: usize, card: usize) -> Admission
         return Admission::Refused(Refusal::Card);
     }
     Admission::Admitted
+}
+
+// How many pages an image takes.
+pub fn pages_of(image: &[u8]) -> usize
+    ensures { λ r. ⌜ r ≡ pagesOf (now (image .entry)) ⌝ }
+{
+    (image.len() + (Board::PAGE - 1)) / Board::PAGE
 }
 
 // The line's word, and the tab behind it.

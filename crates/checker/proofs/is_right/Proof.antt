@@ -2,7 +2,9 @@
 use Rattle.checker.proofs.Right.{right-lowest}
 use borrow.Author.Tests.{not-false}
 use mathlib.Core.Bool.{false≢true}
-use mathlib.Core.Path.{refl, _∙_, sym}
+use mathlib.Core.Path.{ap, _∙_, sym}
+use Prim.Native.Nat.{ℕ, _*_}
+use Rattle.board.specs.Layout.{pageBytes}
 use borrow.Author.Needs.{needs}
 use Rattle.checker.proofs.is_right.Statement.{statement}
 use Rattle.checker.proofs.is_right.Tie as tie
@@ -10,11 +12,8 @@ use Rattle.checker.proofs.is_right.Tie as tie
 flash-bytes-requires : tie.Need-flash-bytes-requires
 flash-bytes-requires c κs = search needs
 
-sub-end : tie.Need-sub-end
-sub-end c = search needs
-
-add-end : tie.Need-add-end
-add-end c = search needs
+pages-of-requires : tie.Need-pages-of-requires
+pages-of-requires c κs = search needs
 
 mul-end : tie.Need-mul-end
 mul-end c = search needs
@@ -54,20 +53,20 @@ returns-4 c =
     let k = c .before in
     let r = k .before .before in
     let f = r .before .before in
-    let z = f .before .before .before in
+    let e = f .before .before .before in
+    let z = e .before in
     let p = z .before .before .before .pre in
     let front = sym (f .before .same-bytes .ensures) ∙ not-false _ (f .if1 .left) in
     let rest = sym (r .before .all-are .ensures) ∙ not-false _ (r .if2 .left) in
     let known = sym (k .before .are-marked .ensures) ∙ not-false _ (k .if3 .left) in
-    λ e. right-lowest _ _ _ _ _ (p .0) (p .1) (z .flash-bytes .ensures) refl front rest known (sym (c .are-marked2 .ensures) ∙ e)
+    λ y. right-lowest _ _ _ _ _ (p .0) (p .1) (z .flash-bytes .ensures) (ap (λ (n : ℕ). n * pageBytes) (e .pages-of .ensures)) front rest known (sym (c .are-marked2 .ensures) ∙ y)
 
 pub is-right-spec : {M : Type 1} → statement M
 is-right-spec =
     tie.close
     (tie.spec
     flash-bytes-requires
-    sub-end
-    add-end
+    pages-of-requires
     mul-end
     sub-same-bytes
     part-same-bytes-start

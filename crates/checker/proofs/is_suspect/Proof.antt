@@ -1,5 +1,6 @@
 -- `checker::is_suspect` meets its contract. Assumes nothing.
 use mathlib.Core.Path.{_∙_, sym}
+use native.Mathlib.Omega.{arith}
 use Rattle.checker.proofs.Walking.{suspect-image, suspect-rest, suspect-other}
 use borrow.Author.Needs.{needs}
 use Rattle.checker.proofs.is_suspect.Statement.{statement}
@@ -22,11 +23,8 @@ returns c =
     let i = c .before .before .before in
     c .differs .ensures ∙ sym (suspect-image _ _ _ _ _ (i .before .mark-of .ensures) (i .if1 .taken))
 
-sub-if2 : tie.Need-sub-if2
-sub-if2 c = search needs
-
-add-if2 : tie.Need-add-if2
-add-if2 c = search needs
+pages-of-requires : tie.Need-pages-of-requires
+pages-of-requires c κs = search needs
 
 mul-if2 : tie.Need-mul-if2
 mul-if2 c = search needs
@@ -40,12 +38,13 @@ differs-requires-2 c κs = search needs
 returns-2 : tie.Need-returns-2
 returns-2 c =
     let r = c .before .before in
-    c .differs2 .ensures ∙ sym (suspect-rest _ _ _ _ _ (r .before .before .mark-of .ensures) (r .before .if1 .left) (r .if2 .taken))
+    let i = r .before .before in
+    c .differs2 .ensures ∙ sym (suspect-rest _ _ _ _ _ (i .before .mark-of .ensures) (i .if1 .left) (omega (arith, r .before .pages-of .ensures, r .if2 .taken)))
 
 returns-3 : tie.Need-returns-3
 returns-3 c =
-    let i = c .before in
-    sym (suspect-other _ _ _ _ _ (i .before .mark-of .ensures) (i .if1 .left) (c .if2 .left))
+    let i = c .before .before in
+    sym (suspect-other _ _ _ _ _ (i .before .mark-of .ensures) (i .if1 .left) (omega (arith, c .before .pages-of .ensures, c .if2 .left)))
 
 pub is-suspect-spec : {M : Type 1} → statement M
 is-suspect-spec =
@@ -56,8 +55,7 @@ is-suspect-spec =
     shared-slice-read-differs-2
     differs-requires
     returns
-    sub-if2
-    add-if2
+    pages-of-requires
     mul-if2
     shared-slice-read-differs-3
     differs-requires-2
