@@ -313,6 +313,24 @@ struct Step {
     device: Device,
 }
 
+fn falling(device: Device) -> Step
+    ensures { λ r. ⌜ r ≡ record { falls = true; device = device } ⌝ }
+{
+    Step {
+        falls: true,
+        device,
+    }
+}
+
+fn going(device: Device) -> Step
+    ensures { λ r. ⌜ r ≡ record { falls = false; device = device } ⌝ }
+{
+    Step {
+        falls: false,
+        device,
+    }
+}
+
 // GETSTATUS: what is pending runs on every board.
 fn status(board: Board, device: Device, work: &mut [u8]) -> Step
     requires { ⌜ (length (now work) ≡ workBytes (board .pages)) × (wellFormed (board .pages) device ≡ true) ⌝ }
@@ -341,15 +359,9 @@ fn report(device: Device, ran: Ran) -> Step
 {
     let told = device.report(ran);
     if told.status != 0 {
-        return Step {
-            falls: true,
-            device,
-        };
+        return falling(device);
     }
-    Step {
-        falls: false,
-        device: device.status(ran),
-    }
+    going(device.status(ran))
 }
 
 // UPLOAD of memory: only whether the checks allow it can differ, and they do not look at flash or RAM.
@@ -361,22 +373,10 @@ fn upload(board: Board, device: Device, setup: Setup, work: &[u8]) -> Step
     let address = action::block_address(setup.value, count, device.pointer);
     let access = action::examine(board, protected, address, count);
     match access {
-        Access::Denied(_) => Step {
-            falls: true,
-            device,
-        },
-        Access::InFlash(_) => Step {
-            falls: false,
-            device: device.enter(Mode::UploadIdle),
-        },
-        Access::InRam(_) => Step {
-            falls: false,
-            device: device.enter(Mode::UploadIdle),
-        },
-        Access::InOptions(_) => Step {
-            falls: false,
-            device: device.enter(Mode::UploadIdle),
-        },
+        Access::Denied(_) => falling(device),
+        Access::InFlash(_) => going(device.enter(Mode::UploadIdle)),
+        Access::InRam(_) => going(device.enter(Mode::UploadIdle)),
+        Access::InOptions(_) => going(device.enter(Mode::UploadIdle)),
     }
 }
 
@@ -424,38 +424,18 @@ fn decided(board: Board, device: Device, setup: Setup, field: &[u8], work: &mut 
 {
     let decision = decision::decide(device, setup, command(field));
     match decision {
-        Decision::Silent => Step {
-            falls: true,
-            device,
-        },
-        Decision::Stall(_) => Step {
-            falls: true,
-            device,
-        },
-        Decision::Accept(next) => Step {
-            falls: false,
-            device: next,
-        },
+        Decision::Silent => falling(device),
+        Decision::Stall(_) => falling(device),
+        Decision::Accept(next) => going(next),
         Decision::Take(next) => {
             hex::decode(field, work, block_from(board));
-            Step {
-                falls: false,
-                device: next,
-            }
+            going(next)
         }
-        Decision::Commands { next, count: _ } => Step {
-            falls: false,
-            device: next,
-        },
+        Decision::Commands { next, count: _ } => going(next),
         Decision::Read => upload(board, device, setup, work),
-        Decision::State => Step {
-            falls: false,
-            device: device,
-        },
-        Decision::Status => Step {
-            falls: true,
-            device,
-        },
+        Decision::State => going(device),
+        // Never: it was asked for before.
+        Decision::Status => falling(device),
     }
 }
 
@@ -600,6 +580,17 @@ struct Onward {
     behind: usize,
 }
 
+// Where it falls, there is no way on.
+fn stuck(device: Device, at: usize) -> Onward
+    ensures { λ r. ⌜ r ≡ record { falls = true; device = device; behind = at } ⌝ }
+{
+    Onward {
+        falls: true,
+        device,
+        behind: at,
+    }
+}
+
 // The event whose line begins at place `at`, on every board.
 fn advance(board: Board, device: Device, job: &[u8], at: usize, work: &mut [u8]) -> Onward
     requires { ⌜ (length (now work) ≡ workBytes (board .pages)) × (1 ≤ board .pages) × (wellFormed (board .pages) device ≡ true) × Ahead (now job) at × (at < length (now job)) ⌝ }
@@ -607,16 +598,8 @@ fn advance(board: Board, device: Device, job: &[u8], at: usize, work: &mut [u8])
 {
     let item = job::event_at(job, at);
     match item {
-        Item::End => Onward {
-            falls: true,
-            device,
-            behind: at,
-        },
-        Item::Bad => Onward {
-            falls: true,
-            device,
-            behind: at,
-        },
+        Item::End => stuck(device, at),
+        Item::Bad => stuck(device, at),
         Item::Attach { next } => Onward {
             falls: false,
             device: device.attach(),
@@ -626,11 +609,7 @@ fn advance(board: Board, device: Device, job: &[u8], at: usize, work: &mut [u8])
             let end = next - 1;
             let step = request(board, device, setup, &job[data..end], work);
             if step.falls {
-                return Onward {
-                    falls: true,
-                    device,
-                    behind: at,
-                };
+                return stuck(device, at);
             }
             let after = step.device;
             Onward {

@@ -1,6 +1,7 @@
 -- `checker::advance` meets its contract. Assumes nothing.
-use mathlib.Core.Path.{refl, _∙_, sym}
+use mathlib.Core.Path.{ap, _∙_, sym}
 use native.Mathlib.Omega.{arith}
+use Rattle.checker.specs.declared.Onward.{Onward}
 use Rattle.checker.proofs.Advancing.{ahead-formed, not-at-end, never-bad, attach-advanced, data-within, data-long, data-digits, request-fallen, request-further}
 use borrow.Author.Needs.{needs}
 use Rattle.checker.proofs.advance.Statement.{statement}
@@ -12,8 +13,14 @@ event-at-requires c κs = let p = c .before .before .pre in (p .4, ahead-formed 
 enum-told : tie.Need-enum-told
 enum-told c = search needs
 
+stuck-requires : tie.Need-stuck-requires
+stuck-requires c κs = search needs
+
 enum-told-2 : tie.Need-enum-told-2
 enum-told-2 c = search needs
+
+stuck-requires-2 : tie.Need-stuck-requires-2
+stuck-requires-2 c κs = search needs
 
 enum-known-item : tie.Need-enum-known-item
 enum-known-item c = search needs
@@ -60,17 +67,30 @@ request-requires c κs =
     let e = sym (i .event-at .ensures) ∙ t .item2 .given .1 in
     (p .0, p .2, data-long _ _ (p .3) _ _ _ e, data-digits _ _ (p .3) _ _ _ e)
 
+stuck-requires-3 : tie.Need-stuck-requires-3
+stuck-requires-3 c κs = search needs
+
+same-length : tie.Need-same-length
+same-length c = search needs
+
+returns : tie.Need-returns
+returns c =
+    let r = c .before .before .before .before in
+    let t = r .before .before .before .before in
+    let i = t .before .before in
+    request-fallen _ _ _ _ _ (i .before .before .before .pre .3) _ _ _ (sym (i .event-at .ensures) ∙ t .item2 .given .1) _ _ (r .request .ensures) _ (c .before .if1 .taken) (ap (λ (x : Onward). x .falls) (c .stuck3 .ensures))
+
 returns-2 : tie.Need-returns-2
 returns-2 c =
-    let i = c .before .before in
+    let i = c .before .before .before in
     let p = i .before .before .before .pre in
-    absurd (not-at-end _ _ (p .3) (p .4) (sym (i .event-at .ensures) ∙ c .enum-told .given .1))
+    absurd (not-at-end _ _ (p .3) (p .4) (sym (i .event-at .ensures) ∙ c .before .enum-told .given .1))
 
 returns-3 : tie.Need-returns-3
 returns-3 c =
-    let i = c .before .before in
+    let i = c .before .before .before in
     let p = i .before .before .before .pre in
-    absurd (never-bad _ _ (p .3) (sym (i .event-at .ensures) ∙ c .enum-told2 .given .1))
+    absurd (never-bad _ _ (p .3) (sym (i .event-at .ensures) ∙ c .before .enum-told2 .given .1))
 
 returns-4 : tie.Need-returns-4
 returns-4 c =
@@ -78,16 +98,6 @@ returns-4 c =
     let i = t .before .before in
     let p = i .before .before .before .pre in
     attach-advanced _ _ _ _ _ (p .3) (p .1) (p .2) _ _ (sym (i .event-at .ensures) ∙ t .item .given .1) (c .attach .ensures)
-
-same-length : tie.Need-same-length
-same-length c = search needs
-
-returns : tie.Need-returns
-returns c =
-    let r = c .before .before .before in
-    let t = r .before .before .before .before in
-    let i = t .before .before in
-    request-fallen _ _ _ _ _ (i .before .before .before .pre .3) _ _ _ (sym (i .event-at .ensures) ∙ t .item2 .given .1) _ _ (r .request .ensures) _ (c .if1 .taken) refl
 
 same-length-2 : tie.Need-same-length-2
 same-length-2 c = search needs
@@ -106,7 +116,9 @@ advance-spec =
     (tie.spec
     event-at-requires
     enum-told
+    stuck-requires
     enum-told-2
+    stuck-requires-2
     enum-known-item
     attach-requires
     enum-known-item-2
@@ -115,6 +127,7 @@ advance-spec =
     part-request-start
     part-request-end
     request-requires
+    stuck-requires-3
     same-length
     returns
     returns-2

@@ -7,18 +7,26 @@ use Rattle.checker.proofs.report.Tie as tie
 report-requires : tie.Need-report-requires
 report-requires c κs = search needs
 
+falling-requires : tie.Need-falling-requires
+falling-requires c κs = search needs
+
 returns : tie.Need-returns
 returns c w =
-    let is = c .before .before .report .ensures in
-    simp (← is, ne-eqb _ _ (c .if1 .taken))
+    let is = c .before .before .before .report .ensures in
+    simp (c .falling .ensures, ← is, ne-eqb _ _ (c .before .if1 .taken))
 
 status-requires : tie.Need-status-requires
 status-requires c κs = search needs
 
+going-requires : tie.Need-going-requires
+going-requires c κs = search needs
+
 returns-2 : tie.Need-returns-2
 returns-2 c w =
-    let is = c .before .before .before .report .ensures in
-    simp (c .status .ensures, ← is, c .before .if1 .left)
+    let is = c .before .before .before .before .report .ensures in
+    simp (c .going .ensures, c .before .status .ensures, ← is, c .before .before .if1 .left)
 
 pub report-spec : {M : Type 1} → statement M
-report-spec = tie.close (tie.spec report-requires returns status-requires returns-2)
+report-spec =
+    tie.close
+    (tie.spec report-requires falling-requires returns status-requires going-requires returns-2)
