@@ -39,6 +39,7 @@ storeAt (InFlash at) count = StoreFlash at count
 storeAt (InRam at) count = StoreRam at count
 storeAt (InOptions at) count = StoreOptions at count
 
+-- what each pending command does, with read protection on or off and the pointer
 abbrev pub actionIn : Pending → ℕ → Bool → ℕ → Action
 actionIn Nothing n protected pointer = Rest
 actionIn (SetPointer address) n protected pointer = pointOf n address
@@ -47,6 +48,7 @@ actionIn MassErase n protected pointer = cond protected (Fail errVENDOR) EraseAl
 actionIn ReadUnprotect n protected pointer = cond protected Unprotect ClearRam
 actionIn (Write block count) n protected pointer = storeAt (accessOf n protected (blockAddress block count pointer) count) count
 
+-- "GETSTATUS", mode 3: what the device's pending command does
 unfoldable pub actionOf : ℕ → Bool → Device → Action
 actionOf n protected d = actionIn (d .pending) n protected (d .pointer)
 

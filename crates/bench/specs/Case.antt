@@ -64,6 +64,7 @@ pub record Check : Type 0 where
   pub finding : Finding
 
 infix 70 _⇒_
+-- a deed with what it has to come to
 abbrev pub _⇒_ : Deed → Finding → Check
 d ⇒ f = record { deed = d; finding = f }
 
@@ -71,9 +72,10 @@ d ⇒ f = record { deed = d; finding = f }
 abbrev pub Case : Type 0
 Case = List Check
 
--- what is found in a case, and what is expected there
+-- what is found in a case
 abbrev pub foundIn : Case → List Finding
 foundIn checks = map (λ (c : Check). found (c .deed)) checks
 
+-- and what is expected there
 abbrev pub expectedIn : Case → List Finding
 expectedIn checks = map (λ (c : Check). c .finding) checks

@@ -26,6 +26,7 @@ write at xs = command 0x21 at ∷ gettingStatus ∷ gettingStatus ∷ downloadin
 abbrev pub memory : ℕ → List ℕ → List ℕ
 memory v card = replicate 18432 v ++ card
 
+-- all erased, default options
 abbrev pub blank : List ℕ
 blank = memory 0xFF defaults
 
@@ -33,45 +34,47 @@ blank = memory 0xFF defaults
 abbrev pub guarded : List ℕ
 guarded = memory 0x77 (put 8 (0xFE ∷ []) defaults)
 
--- a GETSTATUS that ran a command shows status 0 and mode 4, or an error's status and mode 10
+-- a GETSTATUS that ran a command shows status 0 and mode 4
 abbrev pub done : Mode → List ℕ → Finding
 done mode m = state (1 ∷ 6 ∷ 0 ∷ 100 ∷ 0 ∷ 0 ∷ 4 ∷ 0 ∷ []) 0 mode m
 
+-- and where it failed: the status, and mode 10
 abbrev pub failed : ℕ → List ℕ → Finding
 failed status m = state (1 ∷ 6 ∷ status ∷ 0 ∷ 0 ∷ 0 ∷ 10 ∷ 0 ∷ []) status Error m
 
--- the answers Accepted, and Stall with status 15
+-- the answer Accepted
 abbrev pub accepted : Mode → List ℕ → Finding
 accepted mode m = state (0 ∷ []) 0 mode m
 
+-- a Stall with status 15, which leaves mode 10
 abbrev pub stalled : List ℕ → Finding
 stalled m = state (2 ∷ []) 15 Error m
 
 -- the nine cases, in the document's order
 abbrev pub table : List Case
 table =
-    -- P: pointer 0x08000000, wValue 3, length 512: address 0x08000200.
+    -- 1: block 3 of 512 bytes lies 512 bytes behind the pointer
     (locate 3 512 0x08000000 ⇒ address 0x08000200 ∷
     ask (downloading 3 (replicate 512 0x5A) ∷ gettingStatus ∷ []) blank ⇒ done DownloadBusy (put 0x200 (replicate 512 0x5A) blank) ∷ []) ∷
-    -- P: write of 2,048 at 0x08003800 is in range; at 0x08003802 status 1.
+    -- 2: the last 2,048 bytes of flash can be written; two bytes further on they cannot
     (ask (write 0x08003800 (replicate 2048 0x5A)) blank ⇒ done DownloadBusy (put 0x3800 (replicate 2048 0x5A) blank) ∷
     ask (write 0x08003802 (replicate 2048 0x5A)) blank ⇒ failed 1 blank ∷ []) ∷
-    -- P: RAM write of length 1: status 1; of 2: stored.
+    -- 3: one byte to RAM is an error, two are stored
     (ask (write 0x20000000 (0x5A ∷ [])) blank ⇒ failed 1 blank ∷
     ask (write 0x20000000 (0x5A ∷ 0x5B ∷ [])) blank ⇒ done DownloadBusy (put 16384 (0x5A ∷ 0x5B ∷ []) blank) ∷ []) ∷
-    -- P: options write of 15 bytes: 1; of 16: stored, then Rebooting.
+    -- 4: fifteen option bytes are an error; sixteen are stored, and the board reboots
     (ask (write 0x1FFFF800 (replicate 15 0x5A)) blank ⇒ failed 1 blank ∷
     ask (write 0x1FFFF800 (replicate 16 0x5A)) blank ⇒ done Rebooting (put 18432 (replicate 16 0x5A) blank) ∷ []) ∷
-    -- P: card byte 8 = 0xFE; erase page at 0x08000000 reports 0 and changes no memory byte.
+    -- 5: page 0 is protected: its erase reports no error and changes nothing
     (ask (erase 0x08000000) guarded ⇒ done DownloadBusy guarded ∷ []) ∷
-    -- P: the same card, page 1 erased, four bytes at 0x080003FE: only the last two are stored.
+    -- 6: across the border of a protected page, the other part is stored
     (ask (erase 0x08000400 ++ (gettingStatus ∷ write 0x080003FE (1 ∷ 2 ∷ 3 ∷ 4 ∷ []))) guarded ⇒ done DownloadBusy (put 0x400 (3 ∷ 4 ∷ []) (filled 0x400 1024 0xFF guarded)) ∷ []) ∷
-    -- P: DNLOAD in mode 2, wValue 2: wLength 2,048 accepted, 2,049 stalls.
+    -- 7: a transfer has 2,048 bytes at most
     (ask (downloading 2 (replicate 2048 0x5A) ∷ []) blank ⇒ accepted DownloadSync blank ∷
     ask (downloading 2 (replicate 2049 0x5A) ∷ []) blank ⇒ stalled blank ∷ []) ∷
-    -- P: empty job: End 1.
+    -- 8: a job of no events never leaves the loader
     (check [] (0x5A ∷ []) defaults ⇒ judgement (End 1) ∷ []) ∷
-    -- P: CLRSTATUS in mode 2 stalls, in mode 10 gives mode 2.
+    -- 9: CLRSTATUS is for mode 10
     (ask (clearingStatus ∷ []) blank ⇒ stalled blank ∷
     ask (clearingStatus ∷ clearingStatus ∷ []) blank ⇒ accepted Idle blank ∷ []) ∷
     []

@@ -7,34 +7,39 @@ use lib.ListN.{replicate}
 abbrev pub loggerPages : ℕ
 loggerPages = 16
 
--- table, row flash
+-- table, row flash: the size of a page
 abbrev pub pageBytes : ℕ
 pageBytes = 1024
 
+-- table, row flash: its first address
 abbrev pub flashFirst : ℕ
 flashFirst = 0x08000000
 
+-- table, row flash: n pages
 abbrev pub flashBytes : ℕ → ℕ
 flashBytes n = n * pageBytes
 
--- table, row RAM
+-- table, row RAM: its first address
 abbrev pub ramFirst : ℕ
 ramFirst = 0x20000000
 
+-- table, row RAM: its size
 abbrev pub ramBytes : ℕ
 ramBytes = 2048
 
--- table, row options
+-- table, row options: their first address
 abbrev pub optionsFirst : ℕ
 optionsFirst = 0x1FFFF800
 
+-- table, row options: their number
 abbrev pub optionBytes : ℕ
 optionBytes = 16
 
--- table, last column: where a region begins in the memory buffer
+-- table, last column: RAM stands behind flash in the memory buffer
 abbrev pub ramFrom : ℕ → ℕ
 ramFrom n = flashBytes n
 
+-- table, last column: the options stand behind RAM
 abbrev pub optionsFrom : ℕ → ℕ
 optionsFrom n = ramFrom n + ramBytes
 

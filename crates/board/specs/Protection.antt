@@ -14,10 +14,11 @@ lockedFrom from m = not (eqb (getD m from 0) 0xAA)
 unfoldable pub wordFrom : ℕ → List ℕ → ℕ
 wordFrom from m = getD m (from + 8) 0 + getD m (from + 9) 0 * 256
 
--- the same of the memory buffer m
+-- read protection of the memory buffer m
 unfoldable pub readProtected : ℕ → List ℕ → Bool
 readProtected n m = lockedFrom (optionsFrom n) m
 
+-- and the protection word of the memory buffer m
 unfoldable pub wordOf : ℕ → List ℕ → ℕ
 wordOf n m = wordFrom (optionsFrom n) m
 

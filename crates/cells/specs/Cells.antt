@@ -52,9 +52,11 @@ learnt n from xs w = marked n from (length xs) 1 (put from xs w)
 unfoldable pub surely : ℕ → ℕ → ℕ → ℕ → List ℕ → Bool
 surely n word at count w = blank word at count w && each 1 word at count (drop (memoryBytes n + at) w)
 
+-- a page after its erase: known to be 0xFF, or as it was where it is write-protected
 unfoldable pub pageErased : ℕ → ℕ → ℕ → List ℕ → List ℕ
 pageErased n word page w = cond (writeProtected word page) w (learnt n (page * pageBytes) (replicate pageBytes 0xFF) w)
 
+-- the same of `count` pages from `page` on
 unfoldable pub pagesErased : ℕ → ℕ → ℕ → ℕ → List ℕ → List ℕ
 pagesErased n word zero page w = w
 pagesErased n word (suc count) page w = pagesErased n word count (suc page) (pageErased n word page w)
@@ -64,6 +66,7 @@ pub record Worked : Type 0 where
   pub status : ℕ
   pub work : List ℕ
 
+-- the two in one
 abbrev pub worked : ℕ → List ℕ → Worked
 worked status w = record { status = status; work = w }
 
@@ -71,9 +74,11 @@ worked status w = record { status = status; work = w }
 abbrev pub blockOf : ℕ → ℕ → List ℕ → List ℕ
 blockOf n count w = take count (drop (blockFrom n) w)
 
+-- a write to flash: where the erased test cannot fail on any board the block is stored, else the event fails on some
 abbrev pub writes : ℕ → ℕ → ℕ → ℕ → List ℕ → Worked
 writes n word at count w = cond (surely n word at count w) (worked 0 (stored word at (blockOf n count w) w)) (worked errWRITE w)
 
+-- each action on every board at once
 abbrev pub workedOf : ℕ → Action → List ℕ → Worked
 workedOf n Rest w = worked 0 w
 workedOf n (Fail status) w = worked status w
@@ -95,20 +100,24 @@ pub data Moved : Type 0 where
 abbrev pub reports : Device → Ran → List ℕ → Moved
 reports d ran w = cond (eqb (reportOf d ran .status) 0) (goes (afterStatus d ran) w) falls
 
+-- a GETSTATUS whose command is this action
 abbrev pub runs : ℕ → Action → Device → List ℕ → Moved
 runs n action d w = reports d (ranOf action (d .pointer) (workedOf n action w .status)) (workedOf n action w .work)
 
+-- a GETSTATUS in any mode
 unfoldable pub statusMoves : ℕ → Device → List ℕ → Moved
 statusMoves n d w =
     cond (isMode 3 (d .mode)) (runs n (actionOf n (readProtected n w) d) d w)
     (reports d (record { status = 0; pointer = d .pointer; reboots = false }) w)
 
+-- an UPLOAD by what its checks say
 abbrev pub readMoves : Access → Device → List ℕ → Moved
 readMoves (Denied status) d w = falls
 readMoves (InFlash at) d w = goes (entered d UploadIdle) w
 readMoves (InRam at) d w = goes (entered d UploadIdle) w
 readMoves (InOptions at) d w = goes (entered d UploadIdle) w
 
+-- an UPLOAD of memory; its checks look at the options alone
 unfoldable pub readsMoves : ℕ → Device → Setup → List ℕ → Moved
 readsMoves n d s w = readMoves (accessOf n (readProtected n w) (blockAddress (s .value) (s .length) (d .pointer)) (s .length)) d w
 
@@ -123,9 +132,11 @@ decisionMoves decided.Read n d s xs w = readsMoves n d s w
 decisionMoves decided.State n d s xs w = goes d w
 decisionMoves decided.Status n d s xs w = statusMoves n d w
 
+-- a request, decided as the loader decides it
 unfoldable pub requestMoves : ℕ → Device → Setup → List ℕ → List ℕ → Moved
 requestMoves n d s xs w = decisionMoves (decideOf d s (commandOf xs)) n d s xs w
 
+-- an event
 unfoldable pub moves : ℕ → Device → List ℕ → Event → Moved
 moves n d w attach = goes started w
 moves n d w (request q) = requestMoves n d (setupOf q) (drop 8 q) w
@@ -135,10 +146,12 @@ pub data Over : Type 0 where
   fell : ℕ → Over
   ended : Device → List ℕ → Over
 
+-- what follows an event, if it does not fall
 abbrev pub onward : Moved → (Device → List ℕ → Over) → ℕ → Over
 onward falls next k = fell (suc k)
 onward (goes d w) next k = next d w
 
+-- the events in turn, k being how many went before
 unfoldable pub overOf : ℕ → List Event → Device → List ℕ → ℕ → Over
 overOf n [] d w k = ended d w
 overOf n (e ∷ es) d w k = onward (moves n d w e) (λ d′ w′. overOf n es d′ w′ (suc k)) k
@@ -155,6 +168,7 @@ unfoldable pub lowestFrom : (ℕ → Bool) → ℕ → ℕ → ℕ
 lowestFrom test zero i = i
 lowestFrom test (suc count) i = cond (test i) i (lowestFrom test count (suc i))
 
+-- the verdict on flash offset f, the lowest that is suspect
 abbrev pub flashVerdict : ℕ → ℕ → Verdict
 flashVerdict n f = cond (ltb f (flashBytes n)) (verdict.Flash f) verdict.Pass
 
@@ -172,6 +186,7 @@ endVerdict n image card d w =
     endOr (endNumber d (same (take optionBytes (drop (optionsFrom n) w)) card))
     (flashVerdict n (lowestFrom (suspect n image w) (flashBytes n) 0))
 
+-- the verdict of a job that came out so
 abbrev pub overVerdict : ℕ → List ℕ → List ℕ → Over → Verdict
 overVerdict n image card (fell k) = verdict.Event k
 overVerdict n image card (ended d w) = endVerdict n image card d w
@@ -180,5 +195,6 @@ overVerdict n image card (ended d w) = endVerdict n image card d w
 unfoldable pub begun : ℕ → List ℕ → List ℕ → List ℕ
 begun n card w = learnt n (optionsFrom n) card (marked n 0 (memoryBytes n) 0 w)
 
+-- the verdict, read off the work area
 unfoldable pub verdictOf : ℕ → List Event → List ℕ → List ℕ → List ℕ → Verdict
 verdictOf n es image card w = overVerdict n image card (overOf n es started (begun n card w) 0)

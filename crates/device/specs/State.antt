@@ -46,6 +46,7 @@ afterStatus d ran =
     (cond (isMode 6 (d .mode)) (entered d Left)
     d))
 
+-- a status and a mode, by their wire numbers
 abbrev pub report : ℕ → ℕ → Report
 report status state = record { status = status; state = state }
 

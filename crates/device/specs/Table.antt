@@ -19,14 +19,16 @@ modesOf GetState = 2 ∷ 3 ∷ 5 ∷ 6 ∷ 9 ∷ 10 ∷ []
 modesOf Abort = 2 ∷ 3 ∷ 5 ∷ 6 ∷ 9 ∷ []
 modesOf Unknown = []
 
+-- a number is among some
 abbrev pub listed : ℕ → List ℕ → Bool
 listed x [] = false
 listed x (y ∷ ys) = eqb x y || listed x ys
 
+-- a request is taken in a mode whose number is in its row
 unfoldable pub allowedOf : Request → Mode → Bool
 allowedOf request mode = listed (wireOf mode) (modesOf request)
 
--- "a constant table of numbers, by request and mode": its rows and columns
+-- "a constant table of numbers, by request and mode": the requests in the order of the rows
 abbrev pub rowOf : Request → ℕ
 rowOf Download = 0
 rowOf Upload = 1
@@ -36,6 +38,7 @@ rowOf GetState = 4
 rowOf Abort = 5
 rowOf Unknown = 6
 
+-- the modes in the order of the columns
 abbrev pub columnOf : Mode → ℕ
 columnOf Idle = 0
 columnOf DownloadSync = 1

@@ -12,6 +12,7 @@ use Rattle.device.specs.declared.Pending.the-variants.{Nothing, SetPoint
 use Rattle.device.specs.declared.Device.{Device}
 use Rattle.device.specs.Wire.{isMode, errTARGET, errWRITE, errVENDOR, errSTALLEDPKT}
 
+-- a place in one of the regions
 abbrev pub isPlace : Place → Bool
 isPlace (Flash at) = true
 isPlace (Ram at) = true

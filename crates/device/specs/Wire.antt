@@ -25,15 +25,18 @@ isMode k mode = eqb (wireOf mode) k
 abbrev pub manifestWire : ℕ
 manifestWire = 7
 
--- "status", by the names that the paper gives them
+-- the statuses, by the names that the paper gives them. 1: the address or the length is not one of the board's
 abbrev pub errTARGET : ℕ
 errTARGET = 1
 
+-- 3: what is to be written is not erased
 abbrev pub errWRITE : ℕ
 errWRITE = 3
 
+-- 11: read protection is on
 abbrev pub errVENDOR : ℕ
 errVENDOR = 11
 
+-- 15: a request that is not taken
 abbrev pub errSTALLEDPKT : ℕ
 errSTALLEDPKT = 15

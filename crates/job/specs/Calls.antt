@@ -21,10 +21,12 @@ abbrev pub told : Done → List ℕ
 told (Bytes n) = 0 ∷ n ∷ []
 told (Refused r) = numberOf r ∷ lineOf r ∷ []
 
+-- an answer in numbers, and the lent buffer after the call
 pub record Outcome : Type 0 where
   pub answer : List ℕ
   pub buffer : List ℕ
 
+-- what a function returned, and left in the buffer
 abbrev pub left : Done → List ℕ → Outcome
 left r out = record { answer = told r; buffer = out }
 

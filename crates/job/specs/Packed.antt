@@ -22,6 +22,7 @@ piecesAfter k [] = []
 piecesAfter zero (x ∷ p) = firstPiece (x ∷ p) ∷ piecesAfter (pieceSize (x ∷ p) - 1) p
 piecesAfter (suc k) (x ∷ p) = piecesAfter k p
 
+-- the event that some packed bytes hold, if they hold one
 unfoldable pub eventIn : List ℕ → Event
 eventIn l = cond (eqb (getD l 0 0) 0) attach (request (drop 1 l))
 
@@ -41,10 +42,12 @@ lineSize n = cond (ltb n 9) 2 (n * 2 + 2)
 unfoldable pub capped : ℕ → ℕ
 capped n = cond (ltb limit n) (limit + 1) n
 
+-- each of some pieces is a whole event
 unfoldable pub allPacked : List (List ℕ) → Bool
 allPacked [] = true
 allPacked (l ∷ ls) = wellPacked l && allPacked ls
 
+-- the events of some pieces
 unfoldable pub eventsAmong : List (List ℕ) → List Event
 eventsAmong [] = []
 eventsAmong (l ∷ ls) = eventIn l ∷ eventsAmong ls

@@ -55,6 +55,7 @@ badFrom k (l ∷ ls) = cond (wellFormed l) (badFrom (suc k) ls) k
 unfoldable pub firstBad : List ℕ → ℕ
 firstBad t = badFrom 1 (linesOf t)
 
+-- the events of some lines
 unfoldable pub eventsIn : List (List ℕ) → List Event
 eventsIn [] = []
 eventsIn (l ∷ ls) = eventOf l ∷ eventsIn ls

@@ -4,6 +4,7 @@ use Prim.Native.Nat.{ℕ}
 use Prim.Native.Char.{code}
 use Prim.Native.String.{String, [], _∷_}
 
+-- the letters of a text, each by its code
 abbrev pub ascii : String → List ℕ
 ascii [] = none
 ascii (c ∷ s) = code c then ascii s

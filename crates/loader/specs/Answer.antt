@@ -23,6 +23,7 @@ pub record Outcome : Type 0 where
   pub block : List ℕ
   pub reply : List ℕ
 
+-- the same, from an answer and not yet its numbers
 abbrev pub outcome : Answer → Device → List ℕ → List ℕ → List ℕ → Outcome
 outcome a d m b y = record { answer = told a; device = d; memory = m; block = b; reply = y }
 

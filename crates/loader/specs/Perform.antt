@@ -17,6 +17,7 @@ pub record Performed : Type 0 where
   pub status : ℕ
   pub memory : List ℕ
 
+-- the two in one
 abbrev pub performed : ℕ → List ℕ → Performed
 performed status m = record { status = status; memory = m }
 
@@ -37,7 +38,7 @@ performedOf n (StoreFlash at count) b m = writtenOf (wordOf n m) at (take count 
 performedOf n (StoreRam at count) b m = performed 0 (put at (take count b) m)
 performedOf n (StoreOptions at count) b m = performed 0 (put at (take count b) m)
 
--- where in the memory buffer an action ends, and how many bytes of the block buffer it takes
+-- where in the memory buffer an action ends
 abbrev pub endOf : Action → ℕ
 endOf Rest = 0
 endOf (Fail status) = 0
@@ -50,6 +51,7 @@ endOf (StoreFlash at count) = at + count
 endOf (StoreRam at count) = at + count
 endOf (StoreOptions at count) = at + count
 
+-- how many bytes of the block buffer an action takes
 abbrev pub countOf : Action → ℕ
 countOf Rest = 0
 countOf (Fail status) = 0

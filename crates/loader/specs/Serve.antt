@@ -43,6 +43,7 @@ pub record Run : Type 0 where
   pub ran : Ran
   pub memory : List ℕ
 
+-- the two in one
 abbrev pub run : Ran → List ℕ → Run
 run r m = record { ran = r; memory = m }
 
@@ -60,6 +61,7 @@ runOf n d b m =
 abbrev pub reported : Run → Device → List ℕ → List ℕ → Outcome
 reported r d b y = outcome (Reply 6) (afterStatus d (r .ran)) (r .memory) b (put 0 (statusBytes (reportOf d (r .ran))) y)
 
+-- "GETSTATUS" in any mode
 unfoldable pub statusOf : ℕ → Device → List ℕ → List ℕ → List ℕ → Outcome
 statusOf n d m b y = reported (runOf n d b m) d b y
 
@@ -74,6 +76,7 @@ readAt (InFlash at) count d m b y = sentOf at count d m b y
 readAt (InRam at) count d m b y = sentOf at count d m b y
 readAt (InOptions at) count d m b y = sentOf at count d m b y
 
+-- "UPLOAD" of memory, with the block address and the checks
 unfoldable pub readOf : ℕ → Device → Setup → List ℕ → List ℕ → List ℕ → Outcome
 readOf n d s m b y = readAt (accessOf n (readProtected n m) (blockAddress (s .value) (s .length) (d .pointer)) (s .length)) (s .length) d m b y
 

@@ -23,6 +23,7 @@ pageText image page =
 unfoldable pub restText : List ℕ → ℕ → ℕ → List ℕ
 restText image count page = textOf (pagesFrom image count page)
 
+-- the lines behind the last page
 unfoldable pub leavingText : List ℕ
 leavingText = textOf leaving
 

@@ -16,10 +16,11 @@ use Rattle.job.specs.Calls.{Outcome, left, delivered}
 use Rattle.verdict.specs.Verdict.{pagesOf}
 use Rattle.verdict.specs.Checked.{supplied, then}
 
--- DNLOAD of the data xs with this wValue; GETSTATUS
+-- DNLOAD of the data xs with this wValue
 abbrev pub download : ℕ → List ℕ → Event
 download value xs = request (downloading value xs)
 
+-- GETSTATUS
 abbrev pub getStatus : Event
 getStatus = request gettingStatus
 
@@ -27,13 +28,15 @@ getStatus = request gettingStatus
 abbrev pub polled : Event → List Event → List Event
 polled e es = e ∷ getStatus ∷ getStatus ∷ es
 
+-- the address of a page
 abbrev pub pageAddress : ℕ → ℕ
 pageAddress page = flashFirst + page * pageBytes
 
--- "erase page" and "set pointer"
+-- "erase page" of an address
 abbrev pub erasePage : ℕ → Event
 erasePage address = download 0 (0x41 ∷ four address)
 
+-- "set pointer" to an address
 abbrev pub setPointer : ℕ → Event
 setPointer address = download 0 (0x21 ∷ four address)
 
@@ -58,6 +61,7 @@ pagesFrom image (suc count) page =
     (polled (download 2 (padded (pageOf image page)))
     (pagesFrom image count (suc page))))
 
+-- the events of the plan: all pages of the image, then what comes behind them
 unfoldable pub planEvents : List ℕ → List Event
 planEvents image = pagesFrom image (pagesOf image) 0
 

@@ -33,6 +33,7 @@ abbrev pub readable : Done → Admission
 readable (Bytes size) = admission.Admitted
 readable (Refused r) = admission.Refused r
 
+-- one row of refusals before another
 abbrev pub then : Admission → Admission → Admission
 then admission.Admitted next = next
 then (admission.Refused r) next = admission.Refused r

@@ -14,6 +14,7 @@ use Rattle.verdict.specs.declared.Verdict.{Verdict}
 use Rattle.verdict.specs.declared.Verdict.the-variants as verdict
 use Rattle.verdict.specs.World.{World, Fresh, after, failsAt}
 
+-- the mode Left, which no wire number tells from Rebooting
 abbrev pub isLeft : Mode → Bool
 isLeft Idle = false
 isLeft DownloadSync = false

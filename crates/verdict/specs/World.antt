@@ -39,6 +39,7 @@ unfoldable pub steppedOf : ℕ → World → Event → Outcome
 steppedOf n w attach = stepOf n (w .device) event.Attach [] (w .memory) (w .block) (w .reply)
 steppedOf n w (request q) = stepOf n (w .device) event.Request q (w .memory) (w .block) (w .reply)
 
+-- the board after a step
 abbrev pub worldOf : Outcome → World
 worldOf o = record { device = o .device; memory = o .memory; block = o .block; reply = o .reply }
 
@@ -47,6 +48,7 @@ unfoldable pub after : ℕ → List Event → World → World
 after n [] w = w
 after n (e ∷ es) w = after n es (worldOf (steppedOf n w e))
 
+-- the request is a GETSTATUS
 abbrev pub isGetStatus : Request → Bool
 isGetStatus Download = false
 isGetStatus Upload = false
@@ -56,6 +58,7 @@ isGetStatus GetState = false
 isGetStatus Abort = false
 isGetStatus Unknown = false
 
+-- the event is a GETSTATUS
 abbrev pub asksStatus : Event → Bool
 asksStatus attach = false
 asksStatus (request q) = isGetStatus (requestOf (setupOf q))

@@ -19,6 +19,7 @@ pub record Said : Type 0 where
   pub place : ℕ
   pub out : List ℕ
 
+-- the two in one
 abbrev pub left : ℕ → List ℕ → Said
 left place out = record { place = place; out = out }
 
