@@ -122,6 +122,10 @@ def write_files(answers, places):
 
 
 def main(words):
+    known = words in (["--show"], ["--count"])
+    if not known and (len(words) > 2 or any(word.startswith("-") for word in words)):
+        print("usage: check_vectors.py [VECTORS [STDOUT]] | --show | --count", file=sys.stderr)
+        sys.exit(2)
     answers = [(job, *judged(job)) for job in everything()]
     if words == ["--show"]:
         print("\n".join(job.words(answer, events) for job, answer, events in answers))

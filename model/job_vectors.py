@@ -222,8 +222,11 @@ def random_jobs(tape, dice):
             tape.add(WRITE, packed, room=len(text) + 40, place=place, byte=dice.choice((0, 1, 2, 0x80, dice.randrange(256))))
 
 
-def main():
-    crate = pathlib.Path(sys.argv[1])
+def main(words):
+    if len(words) != 1 or words[0].startswith("-"):
+        print("usage: job_vectors.py CRATE", file=sys.stderr)
+        sys.exit(2)
+    crate = pathlib.Path(words[0])
     tape = Tape()
     plain_texts(tape)
     for text in damaged(text_of(SHORT_JOB)):
@@ -239,4 +242,4 @@ def main():
     (crate / "stdout").write_text("\n".join(tape.lines) + "\nvectors %d\n" % tape.vectors)
 
 
-main()
+main(sys.argv[1:])

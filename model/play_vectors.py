@@ -154,13 +154,16 @@ def played(events, board):
     return text + "".join(differences(board, memory, "\n")) + "\nall else is as before\n"
 
 
-def main():
+def main(words):
+    if words != ["--show"] and (len(words) > 1 or any(word.startswith("-") for word in words)):
+        print("usage: play_vectors.py [CRATE] | --show", file=sys.stderr)
+        sys.exit(2)
     events, board = sample_job(), sample_board()
     text = played(events, board)
-    if sys.argv[1:] == ["--show"]:
+    if words == ["--show"]:
         print(text, end="")
         return
-    crate = pathlib.Path(sys.argv[1] if sys.argv[1:] else "crates/play_job")
+    crate = pathlib.Path(words[0] if words else "crates/play_job")
     (crate / "data").mkdir(parents=True, exist_ok=True)
     job = b"".join(line_of(b"" if event == loader.ATTACH else event) for event in events)
     (crate / "data" / "job.txt").write_bytes(job)
@@ -168,4 +171,4 @@ def main():
     (crate / "stdout").write_text(text)
 
 
-main()
+main(sys.argv[1:])

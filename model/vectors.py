@@ -536,6 +536,10 @@ def write_files(t, places):
 
 
 def main(words):
+    known = words in (["--show"], ["--count"])
+    if not known and (len(words) > 2 or any(word.startswith("-") for word in words)):
+        print("usage: vectors.py [VECTORS [STDOUT]] | --show | --count", file=sys.stderr)
+        sys.exit(2)
     t = everything()
     if words == ["--show"]:
         print("\n".join(t.words))
