@@ -33,7 +33,7 @@ import plan
 RAMP, SCATTERED = range(2)
 PAGE, PAGES = plan.PAGE, 16
 MODULUS = 4294967291
-MOST_IMAGE, MOST_OUT, MOST_CARD = 20000, 45000, 32
+MOST_IMAGE, MOST_OUT, MOST_CARD = 17408, 40000, 32
 DEFAULT_CARD = b"\xAA" + 15 * b"\xFF"
 LENGTHS = (0, 1, 2, 3, 1023, 1024, 1025, 2047, 2048, 2049, 3 * PAGE, 15 * PAGE + 1, 16383, 16384, 16385)
 
@@ -182,7 +182,7 @@ def contents(tape):
 def rooms(tape):
     """Every length with buffers about the text's length, none, and much longer ones."""
     for length in LENGTHS:
-        for extra in (-1, 0, 1, 2, 20, -110):
+        for extra in (-1, 0, 1, 20):
             tape.add(scattered(length, 77 + length), extra=extra)
         for room in (0, 1, MOST_OUT):
             tape.add(scattered(length, 78 + length), room=room)
@@ -202,14 +202,14 @@ def cards(tape):
 
 
 def one_page(tape):
-    """Each page protected: an image that ends before it, one that has its first byte, one that has it all."""
+    """Each page protected: images that end before it, that have its first byte, all of it, and all pages."""
     for page in range(PAGES):
         start = page * PAGE
-        for length in (start - 1, start, start + 1, start + 2, start + PAGE):
+        for length in (start - 1, start, start + 1, start + PAGE):
             if length > 0:
                 tape.add(scattered(length, page), card=without(page))
-    for page in range(1, PAGES):
-        tape.add(scattered(PAGE * 16, page), card=without(page))
+    for page in range(PAGES):
+        tape.add(scattered(plan.MOST_IMAGE, page), card=without(page), room=1000)
 
 
 def some_pages(tape):
@@ -232,9 +232,9 @@ def orders(tape):
     """Several refusals apply at once."""
     given = (DEFAULT_CARD, without(0), without(15), card(protection=0), card(0, 0),
              b"", DEFAULT_CARD[:15], DEFAULT_CARD + b"\xFF", card(protection=0)[:15], without(0) + b"\xFF", card(0, 0)[:10])
-    for length in (0, 1, 1025, 16384, 16385, 20000):
+    for length in (0, 1, 1025, 16384, 16385):
         for options in given:
-            for more in ({"room": 0}, {"extra": -1}, {"extra": 0}):
+            for more in ({"room": 0}, {"room": 109}, {"extra": 0}):
                 tape.add(scattered(length, 5), card=options, **more)
 
 
@@ -242,7 +242,7 @@ def thrown(tape):
     """By dice: most images short, most cards open."""
     dice = random.Random(3156)
     for _ in range(160):
-        length = dice.choice((dice.randrange(40), dice.randrange(3000), dice.randrange(3000), dice.randrange(17000)))
+        length = dice.choice((dice.randrange(40), dice.randrange(3000), dice.randrange(3000), dice.randrange(MOST_IMAGE + 1)))
         options = bytearray(dice.randrange(256) for _ in range(16))
         if dice.random() < 0.9:
             options[0] = 0xAA

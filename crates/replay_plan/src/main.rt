@@ -10,9 +10,9 @@ use libc::STDERR_FILENO;
 use libc::STDOUT_FILENO;
 
 // Room for the longest image and the longest buffer of a vector.
-const IMAGE_ROOM: usize = 20000;
+const IMAGE_ROOM: usize = 17408;
 
-const OUT_ROOM: usize = 45000;
+const OUT_ROOM: usize = 40000;
 
 // A proved loop has to end, and nothing says that a file does: more vectors than any file of ours has.
 const MOST_VECTORS: u64 = 1000000;
