@@ -328,10 +328,10 @@ fn status_fits(mode: Mode, status: u8) -> bool
         return status == 0;
     }
     match status {
-        1 => true,
-        3 => true,
-        11 => true,
-        15 => true,
+        Device::TARGET => true,
+        Device::WRITE => true,
+        Device::VENDOR => true,
+        Device::STALLED => true,
         _ => false,
     }
 }
