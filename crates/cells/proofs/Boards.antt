@@ -2,7 +2,7 @@
 use mathlib.Core.Path.{_≡_, refl, ap, _∙_, sym}
 use mathlib.Core.Bool.{true, false}
 use mathlib.Core.Logic.{inl}
-use mathlib.Core.List.{List, [], _∷_, _++_}
+use mathlib.Core.List.{List, _++_}
 use Prim.Native.Nat.{ℕ, zero, suc, _+_, _-_, _≤_, _<_}
 use native.Mathlib.Omega.{arith}
 use native.Mathlib.Nat.{add-zero}
@@ -12,11 +12,12 @@ use lib.Seq.{getD-drop, drop-at}
 use Rattle.laws.specs.Bytes.{filled}
 use Rattle.laws.proofs.Bytes.{filled-length}
 use Rattle.laws.proofs.Places.{put-in}
-use Rattle.laws.proofs.Split.{by-lt, and-true}
+use Rattle.laws.proofs.Split.{by-lt}
 use Rattle.board.specs.Layout.{optionsFrom, optionBytes, memoryBytes}
 use Rattle.request.specs.Request.{transferBytes}
 use Rattle.device.specs.State.{started}
 use Rattle.hex.specs.Hex.{allBytes}
+use Rattle.job.proofs.Formed.{bytes-append}
 use Rattle.verdict.specs.World.{World, Fresh}
 use Rattle.verdict.specs.Checked.{workBytes}
 use Rattle.cells.specs.Cells.{known, marked, learnt, begun}
@@ -77,13 +78,6 @@ unfolding allBytes
 all-replicate c zero h = refl
 all-replicate c (suc count) h = rw (h, all-replicate c count h)
 
-all-append : (xs ys : List ℕ) → allBytes xs ≡ true → allBytes ys ≡ true → allBytes (xs ++ ys) ≡ true
-unfolding allBytes
-all-append [] ys a b = b
-all-append (x ∷ xs) ys a b =
-    let p = and-true (ltb x 256) (allBytes xs) a in
-    rw (p .0, all-append xs ys (p .1) b)
-
 -- a board whose flash and RAM hold c everywhere
 unfoldable pub plain : ℕ → List ℕ → ℕ → World
 plain n card c = record { device = started; memory = replicate (optionsFrom n) c ++ card; block = replicate transferBytes 0; reply = replicate transferBytes 0 }
@@ -98,7 +92,7 @@ module _ (n : ℕ) (card : List ℕ) (c : ℕ) (lc : length card ≡ optionBytes
       record {
         device = refl;
         memory = length-append (replicate (optionsFrom n) c) card ∙ (let z : length (replicate (optionsFrom n) c) + length card ≡ memoryBytes n = omega (arith, same-length) in z);
-        bytes = all-append (replicate (optionsFrom n) c) card (all-replicate c (optionsFrom n) small) bytes;
+        bytes = bytes-append (replicate (optionsFrom n) c) card (all-replicate c (optionsFrom n) small) bytes;
         options = drop-at (replicate (optionsFrom n) c) card (optionsFrom n) same-length;
         block = length-replicate {A = ℕ} transferBytes 0;
         reply = length-replicate {A = ℕ} transferBytes 0;

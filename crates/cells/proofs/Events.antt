@@ -1,6 +1,6 @@
 -- An event moves every board as it moves the work area, and falls on a board of zeros where it falls there. Assumes nothing.
 use mathlib.Core.Path.{_≡_, refl, ap, _∙_, sym}
-use mathlib.Core.Bool.{Bool, true, false, _&&_}
+use mathlib.Core.Bool.{true, false}
 use mathlib.Core.Logic.{inl}
 use mathlib.Core.List.{List, [], _∷_}
 use Prim.Native.Nat.{ℕ, _+_, _-_, _≤_, _<_}
@@ -12,6 +12,7 @@ use borrow.Author.Tests.{eq-eqb}
 use Rattle.laws.specs.Bytes.{put}
 use Rattle.laws.proofs.Append.{take-put, part-put}
 use Rattle.laws.proofs.Bytes.{put-length, take-at-most}
+use Rattle.laws.proofs.Split.{and-right-false}
 use Rattle.board.specs.Layout.{optionsFrom, memoryBytes}
 use Rattle.board.specs.Protection.{readProtected}
 use Rattle.request.specs.declared.Request.the-variants.{Download}
@@ -55,15 +56,10 @@ pub record Stands (n : ℕ) (m₀ : List ℕ) (x : World) (d : Device) (w : List
   pub block : length (x .block) ≡ transferBytes
   pub reply : length (x .reply) ≡ transferBytes
 
--- a fault that only a Reply to a GETSTATUS has
-and-false : (a : Bool) → (a && false) ≡ false
-and-false true = refl
-and-false false = refl
-
 -- the answer Accepted never fails
 accepted-fine : (e : Event) (o : Outcome) → o .answer ≡ 0 ∷ [] → fails e o ≡ false
 unfolding fails
-accepted-fine e o a = rw a (and-false (asksStatus e))
+accepted-fine e o a = rw a (and-right-false (asksStatus e))
 
 -- nor does a Reply to what is no GETSTATUS
 reply-fine : (e : Event) (o : Outcome) (count : ℕ) → o .answer ≡ 1 ∷ count ∷ [] → asksStatus e ≡ false → fails e o ≡ false
@@ -72,7 +68,7 @@ reply-fine e o count a s = rw (a, s)
 
 status-fine : (e : Event) (o : Outcome) (count : ℕ) → o .answer ≡ 1 ∷ count ∷ [] → getD (o .reply) 0 0 ≡ 0 → fails e o ≡ false
 unfolding fails
-status-fine e o count a z = rw (a, z) (and-false (asksStatus e))
+status-fine e o count a z = rw (a, z) (and-right-false (asksStatus e))
 
 status-fails : (e : Event) (o : Outcome) (count : ℕ) → o .answer ≡ 1 ∷ count ∷ [] → asksStatus e ≡ true → eqb (getD (o .reply) 0 0) 0 ≡ false → fails e o ≡ true
 unfolding fails

@@ -9,12 +9,13 @@ use lib.ListN.{length, take, drop, getD, length-append, take-append-drop}
 use lib.Seq.{take-append-seam, drop-append-seam}
 use Rattle.laws.proofs.Split.{by-bool, and-true}
 use Rattle.request.specs.Setup.{setupOf, dataLength}
+use Rattle.request.proofs.Lengths.{fits-eight, fits-data}
 use Rattle.hex.specs.Hex.{allBytes}
 use Rattle.job.specs.Event.{Event, attach, request, fits, inBytes, proper, packOf, packedOf, same}
 use Rattle.job.specs.Packed.{pieceSize, firstPiece, piecesAfter, eventIn, wellPacked, allPacked, eventsAmong, packs, unpacked}
 use Rattle.job.proofs.FirstLine.{same-refl, same-eq, joined}
 use Rattle.job.proofs.EventText.{proper-parts}
-use Rattle.job.proofs.Formed.{fits-long, fits-data, setup-front, bytes-drop, bytes-apart}
+use Rattle.job.proofs.Formed.{setup-front, bytes-drop, bytes-apart}
 
 pub size-some : (p : List ℕ) → 1 ≤ pieceSize p
 unfolding pieceSize
@@ -42,7 +43,7 @@ unfolding pieceSize packOf fits
 pack-size attach s f = refl
 pack-size (request q) s f =
     let d : length q ≡ 8 + dataLength (setupOf q) = fits-data q f in
-    let e : dataLength (setupOf (q ++ s)) ≡ dataLength (setupOf q) = ap dataLength (setup-front q s (fits-long q f)) in
+    let e : dataLength (setupOf (q ++ s)) ≡ dataLength (setupOf q) = ap dataLength (setup-front q s (fits-eight q f)) in
     omega arith
 
 pub pack-first : (e : Event) (s : List ℕ) → fits e ≡ true → firstPiece (packOf e ++ s) ≡ packOf e

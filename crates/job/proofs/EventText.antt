@@ -10,12 +10,13 @@ use lib.ListN.{length, take, drop, getD, length-append, take-append-drop}
 use lib.Seq.{length-take-le, drop-append-seam}
 use Rattle.laws.proofs.Split.{by-bool, and-true}
 use Rattle.request.specs.Setup.{fitsOf}
+use Rattle.request.proofs.Lengths.{fits-eight}
 use Rattle.hex.specs.Hex.{bytesOf, allBytes}
 use Rattle.job.specs.Event.{Event, attach, request, fits, inBytes, proper, lineOf, textOf, same}
 use Rattle.job.specs.Text.{firstLine, onto, linesOf, eventOf, wellFormed, badFrom, firstBad, eventsIn, eventsOf}
 use Rattle.job.proofs.Spelling.{spelled}
 use Rattle.job.proofs.FirstLine.{same-eq, first-spelled, lines-first, joined}
-use Rattle.job.proofs.Formed.{fits-long, bytes-take, bytes-drop, event-spelled, formed-spelled, event-bytes}
+use Rattle.job.proofs.Formed.{bytes-take, bytes-drop, event-spelled, formed-spelled, event-bytes}
 
 -- the line of an event that fits gives the event back
 module _ (q : List ℕ) (f : fitsOf q ≡ true) (y : allBytes q ≡ true) where
@@ -24,12 +25,12 @@ module _ (q : List ℕ) (f : fitsOf q ≡ true) (y : allBytes q ≡ true) where
 
   request-event : eventOf (lineOf (request q)) ≡ request q
   unfolding lineOf
-  request-event = event-spelled (take 8 q) (drop 8 q) (length-take-le 8 q (fits-long q f)) (bytes-take 8 q y) (bytes-drop 8 q y) ∙ ap request halves
+  request-event = event-spelled (take 8 q) (drop 8 q) (length-take-le 8 q (fits-eight q f)) (bytes-take 8 q y) (bytes-drop 8 q y) ∙ ap request halves
 
   request-formed : wellFormed (lineOf (request q)) ≡ true
   unfolding lineOf
   request-formed =
-      formed-spelled (take 8 q) (drop 8 q) (length-take-le 8 q (fits-long q f)) (bytes-take 8 q y) (bytes-drop 8 q y) (ap fitsOf halves ∙ f)
+      formed-spelled (take 8 q) (drop 8 q) (length-take-le 8 q (fits-eight q f)) (bytes-take 8 q y) (bytes-drop 8 q y) (ap fitsOf halves ∙ f)
 
 pub line-event : (e : Event) → fits e ≡ true → inBytes e ≡ true → eventOf (lineOf e) ≡ e
 unfolding fits inBytes eventOf lineOf

@@ -4,12 +4,13 @@ use mathlib.Core.Bool.{true}
 use mathlib.Core.List.{List, [], _∷_, _++_, append-assoc}
 use Prim.Native.Nat.{ℕ, zero, suc, _+_, _-_, _*_, _≤_, _<_}
 use native.Mathlib.Omega.{arith}
-use lib.Dec.{eqb, ltb, leb}
+use lib.Dec.{eqb, ltb}
 use lib.ListN.{length, take, drop, getD, length-append, take-append-drop, List·getD-append}
 use lib.Seq.{length-take-le, take-at, drop-at}
-use borrow.Author.Tests.{eqb-true, eqb-false, leb-true, eq-eqb, ne-eqb, le-leb}
+use borrow.Author.Tests.{eqb-false, eq-eqb, ne-eqb, le-leb}
 use Rattle.laws.proofs.Split.{by-bool, and-true}
 use Rattle.request.specs.Setup.{setupOf, dataLength, fitsOf}
+use Rattle.request.proofs.Lengths.{fits-eight, fits-data}
 use Rattle.hex.specs.Hex.{bytesOf, allDigits, allBytes}
 use Rattle.hex.proofs.Fields.{bytes-are, bytes-hex, digits-hex}
 use Rattle.job.specs.Event.{request, fits, lineOf, same, inBytes}
@@ -17,15 +18,7 @@ use Rattle.job.specs.Text.{firstLine, eventOf, wellFormed}
 use Rattle.job.proofs.Spelling.{spelled, Spelled, spelled-facts}
 use Rattle.job.proofs.FirstLine.{same-refl, same-eq, first-rest, first-kind, first-spelled}
 
--- a request that fits has its setup, and the data that the setup asks for
-pub fits-long : (q : List ℕ) → fitsOf q ≡ true → 8 ≤ length q
-unfolding fitsOf
-fits-long q h = leb-true 8 (length q) (and-true (leb 8 (length q)) (eqb (length q) (8 + dataLength (setupOf q))) h .0)
-
-pub fits-data : (q : List ℕ) → fitsOf q ≡ true → length q ≡ 8 + dataLength (setupOf q)
-unfolding fitsOf
-fits-data q h = eqb-true (length q) (8 + dataLength (setupOf q)) (and-true (leb 8 (length q)) (eqb (length q) (8 + dataLength (setupOf q))) h .1)
-
+-- a request fits that has its setup, and the data that the setup asks for
 pub fits-if : (q : List ℕ) → 8 ≤ length q → length q ≡ 8 + dataLength (setupOf q) → fitsOf q ≡ true
 unfolding fitsOf
 fits-if q h e = rw (le-leb 8 (length q) h, eq-eqb (length q) (8 + dataLength (setupOf q)) e)
@@ -145,7 +138,7 @@ module _ (l : List ℕ) (formed : wellFormed l ≡ true) (other : getD l 0 0 ≡
   asked-line = same-eq l (lineOf (eventOf l)) (and-true (fits (eventOf l)) (same l (lineOf (eventOf l))) formed .1) ∙ ap lineOf (event-request l other)
 
   asked-whole : length (take 8 asked) ≡ 8
-  asked-whole = length-take-le 8 asked (fits-long asked asked-fits)
+  asked-whole = length-take-le 8 asked (fits-eight asked asked-fits)
 
   asked-bytes : allBytes asked ≡ true
   asked-bytes =

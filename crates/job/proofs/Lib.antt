@@ -15,5 +15,4 @@ pub mod SpellLine
 pub mod SpellLoop
 pub mod WalkEvents
 pub mod Answers
-pub mod RoundTrip
 pub mod Theorems

@@ -12,9 +12,9 @@ use Rattle.laws.proofs.Bytes.{sets-put, rest-is}
 use Rattle.laws.proofs.Append.{sets-append}
 use Rattle.laws.proofs.Split.{by-lt}
 use Rattle.request.specs.Setup.{fitsOf}
+use Rattle.request.proofs.Lengths.{fits-eight}
 use Rattle.job.specs.Event.{Event, attach, request, fits, lineOf, textOf}
 use Rattle.job.specs.Packed.{pieceSize, firstPiece, piecesAfter, eventIn, wellPacked, pieceLength, eventsAmong, packs, unpacked}
-use Rattle.job.proofs.Formed.{fits-long}
 use Rattle.job.proofs.EventPacked.{well-fits}
 use Rattle.job.proofs.SpellSize.{turn-broken, well, piece-is, turn-packs, turn-text}
 use Rattle.job.proofs.SpellLine.{attach-spelled, attach-fits}
@@ -48,7 +48,7 @@ module _ (l : List ℕ) (kind : getD l 0 0 ≡ 0 → ⊥) where
   unfolding fits
   piece-long w =
       let f : fitsOf (drop 1 l) ≡ true = ap fits (sym (in-request l kind)) ∙ well-fits l w in
-      let h : 8 ≤ length (drop 1 l) = fits-long (drop 1 l) f in
+      let h : 8 ≤ length (drop 1 l) = fits-eight (drop 1 l) f in
       let e : length (drop 1 l) ≡ length l - 1 = length-drop 1 l in
       omega arith
 

@@ -11,12 +11,12 @@ use borrow.Author.Tests.{lt-ltb, le-ltb}
 use Rattle.laws.proofs.Bytes.{rest-is}
 use Rattle.laws.proofs.Split.{by-bool, by-lt}
 use Rattle.refusal.specs.declared.Refusal.the-variants.{Request}
+use Rattle.request.proofs.Lengths.{fits-eight}
 use Rattle.job.specs.declared.Done.the-variants.{Bytes, Refused}
 use Rattle.job.specs.Event.{Event, attach, request, fits, lineOf, textOf, packOf}
 use Rattle.job.specs.Text.{limit}
 use Rattle.job.specs.Packed.{pieceSize, firstPiece, piecesAfter, eventIn, wellPacked, pieceLength, lineSize, capped, allPacked, eventsAmong, packs, unpacked}
 use Rattle.job.specs.Calls.{sizeOf}
-use Rattle.job.proofs.Formed.{fits-long}
 use Rattle.job.proofs.Spelling.{spelled-size}
 use Rattle.job.proofs.EventPacked.{size-some, pieces-first, well-pack, well-fits}
 use Rattle.job.proofs.PieceLength.{piece-good, piece-bad}
@@ -90,7 +90,7 @@ line-size-of : (e : Event) → fits e ≡ true → length (lineOf e) ≡ lineSiz
 unfolding fits packOf
 line-size-of attach f = attach-length ∙ line-size-short 1 (omega arith)
 line-size-of (request q) f =
-    let h : 8 ≤ length q = fits-long q f in
+    let h : 8 ≤ length q = fits-eight q f in
     let k : 9 ≤ suc (length q) = omega arith in
     line-length-of q h ∙ (let e : 20 + (length q - 8) * 2 ≡ suc (length q) * 2 + 2 = omega arith in e) ∙ line-size-long (suc (length q)) k
 

@@ -9,16 +9,17 @@ use lib.Seq.{drop-drop, drop-append-seam, length-take-le}
 use borrow.Author.Tests.{lt-leb, le-leb}
 use Rattle.request.specs.Setup.{setupOf, dataLength}
 use Rattle.request.specs.declared.Setup.{Setup}
+use Rattle.request.proofs.Lengths.{fits-eight, fits-data}
 use Rattle.hex.specs.Hex.{hexOf, allDigits, bytesOf}
 use Rattle.hex.proofs.Fields.{bytes-hex, digits-hex}
 use Rattle.job.specs.declared.Item.the-variants as item
 use Rattle.job.specs.Event.{Event, attach, request, fits, inBytes, proper, lineOf, textOf}
-use Rattle.job.specs.Text.{firstLine, wellFormed, firstBad, eventsOf}
+use Rattle.job.specs.Text.{firstLine, wellFormed}
 use Rattle.job.specs.Calls.{itemFor, itemOf}
 use Rattle.job.proofs.Spelling.{spelled, spelled-facts}
-use Rattle.job.proofs.Formed.{fits-long, fits-data, bytes-drop}
+use Rattle.job.proofs.Formed.{bytes-drop}
 use Rattle.job.proofs.SpellSize.{line-length-of}
-use Rattle.job.proofs.EventText.{line-event, line-formed, line-first, line-some, proper-parts, good-text}
+use Rattle.job.proofs.EventText.{line-event, line-formed, line-first, line-some, proper-parts}
 
 -- where the text goes on with the lines of e and es
 module _ (t : List ℕ) (at : ℕ) (e : Event) (es : List Event) (is : drop at t ≡ textOf (e ∷ es)) (ok : proper (e ∷ es) ≡ true) where
@@ -60,7 +61,7 @@ data-here : (t : List ℕ) (at : ℕ) (q : List ℕ) (es : List Event) → drop 
 unfolding textOf lineOf fits
 data-here t at q es is ok =
     let p = proper-parts (request q) es ok in
-    let h : 8 ≤ length q = fits-long q (p .0) in
+    let h : 8 ≤ length q = fits-eight q (p .0) in
     let l : length (take 8 q) ≡ 8 = length-take-le 8 q h in
     let f = spelled-facts (take 8 q) (drop 8 q) (textOf es) l in
     let n : dataLength (setupOf q) * 2 ≡ length (drop 8 q) * 2 = let d = fits-data q (p .0) in let k : length (drop 8 q) ≡ length q - 8 = length-drop 8 q in omega arith in
@@ -73,7 +74,7 @@ line-ends : (q : List ℕ) → fits (request q) ≡ true → length (lineOf (req
 unfolding fits
 line-ends q f =
     let d = fits-data q f in
-    let l = line-length-of q (fits-long q f) in
+    let l = line-length-of q (fits-eight q f) in
     omega arith
 
 -- where the text is at its end
@@ -92,10 +93,6 @@ formed-here t at [] is ok h =
     let d : length (drop at t) ≡ length t - at = length-drop at t in
     absurd (omega arith)
 formed-here t at (e ∷ es) is ok h = let p = proper-parts e es ok in ap wellFormed (first t at e es is ok) ∙ line-formed e (p .0) (p .1)
-
--- a walk over a text without a malformed line begins with all of its events
-pub walk-start : (t : List ℕ) → firstBad t ≡ 0 → drop 0 t ≡ textOf (eventsOf t)
-walk-start t h = sym (good-text t h)
 
 -- what each item tells of the events that the text goes on with
 pub end-tells : (t : List ℕ) (at : ℕ) (es : List Event) → drop at t ≡ textOf es → proper es ≡ true → itemOf t at ≡ item.End → es ≡ []

@@ -12,14 +12,12 @@ use Rattle.board.specs.Layout.{pageBytes, flashFirst}
 use Rattle.request.specs.Setup.{setupOf, dataLength, fitsOf}
 use Rattle.hex.specs.Hex.{allBytes}
 use Rattle.job.specs.Event.{Event, fits, inBytes, proper}
-use Rattle.job.specs.Text.{eventsOf}
 use Rattle.job.proofs.Formed.{fits-if, bytes-append, bytes-take, bytes-drop}
-use Rattle.job.proofs.EventText.{text-events}
 use Rattle.cells.proofs.Events.{Fitting}
 use Rattle.cells.proofs.Runs.{AllFit}
 use Rattle.request.specs.Spelled.{two, four}
 use Rattle.verdict.specs.Verdict.{pagesOf}
-use Rattle.plan.specs.Plan.{download, getStatus, polled, pageAddress, erasePage, setPointer, padded, pageOf, leaving, pagesFrom, planEvents, planOf}
+use Rattle.plan.specs.Plan.{download, getStatus, polled, pageAddress, erasePage, setPointer, padded, pageOf, leaving, pagesFrom, planEvents}
 use Rattle.plan.proofs.Requests.{setupFor, download-setup}
 use Rattle.plan.proofs.Image.{padded-most, page-most}
 
@@ -113,7 +111,3 @@ pages-proper image (suc count) page y =
 pub plan-proper : (image : List ℕ) → allBytes image ≡ true → proper (planEvents image) ≡ true
 unfolding planEvents
 plan-proper image y = pages-proper image (pagesOf image) 0 y
-
-pub plan-events : (image : List ℕ) → allBytes image ≡ true → eventsOf (planOf image) ≡ planEvents image
-unfolding planOf
-plan-events image y = text-events (planEvents image) (plan-proper image y)

@@ -9,6 +9,7 @@ use Rattle.board.specs.Layout.{loggerPages, pageBytes, flashBytes, optionBytes}
 use Rattle.loader.specs.declared.Admission.the-variants as admission
 use Rattle.hex.specs.Hex.{allBytes}
 use Rattle.job.specs.Text.{limit, eventsOf}
+use Rattle.job.proofs.EventText.{text-events}
 use Rattle.verdict.specs.declared.Verdict.{Verdict}
 use Rattle.verdict.specs.declared.Verdict.the-variants as verdict
 use Rattle.verdict.specs.Verdict.{Judged}
@@ -17,7 +18,7 @@ use Rattle.verdict.proofs.Theorems.{one-verdict}
 use Rattle.cells.proofs.Judgement.{judged}
 use Rattle.plan.specs.Plan.{planEvents, planOf, barred, planable, planned}
 use Rattle.plan.proofs.Passes.{plan-verdict}
-use Rattle.plan.proofs.Proper.{plan-fits, plan-events}
+use Rattle.plan.proofs.Proper.{plan-fits, plan-proper}
 use Rattle.plan.proofs.Admitted.{planable-supplied, planable-lengths, planable-free}
 use Rattle.plan.proofs.Call.{plan-checkable}
 use Rattle.laws.proofs.Split.{by-eq}
@@ -55,11 +56,12 @@ plan-passes n image card some most lc bytes free =
 
 -- The text of a plan gives its events back.
 pub plan-spells : (image : List ℕ) → allBytes image ≡ true → eventsOf (planOf image) ≡ planEvents image
-plan-spells image y = plan-events image y
+unfolding planOf
+plan-spells image y = text-events (planEvents image) (plan-proper image y)
 
 -- So the text passes too.
 pub plan-text-passes : (n : ℕ) (image card : List ℕ) → 1 ≤ length image → length image ≤ flashBytes n → length card ≡ optionBytes → allBytes image ≡ true → allBytes card ≡ true → barred image card ≡ false → Judged n (eventsOf (planOf image)) image card verdict.Pass
-plan-text-passes n image card some most lc y bytes free = rw (plan-events image y) (plan-passes n image card some most lc bytes free)
+plan-text-passes n image card some most lc y bytes free = rw (plan-spells image y) (plan-passes n image card some most lc bytes free)
 
 -- What the plan writer does not refuse, the checker passes.
 pub planable-passes : (n : ℕ) (image card : List ℕ) → allBytes image ≡ true → allBytes card ≡ true → planable n image card ≡ admission.Admitted → Judged n (eventsOf (planOf image)) image card verdict.Pass
