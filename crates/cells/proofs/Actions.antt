@@ -35,7 +35,7 @@ module _ (n : ℕ) (m₀ : List ℕ) where
       let room : page * pageBytes + pageBytes ≤ memoryBytes n = omega arith in
       by-bool (writeProtected word page) (λ e. rw e s) (λ e. rw e (same-bytes n (page * pageBytes) pageBytes 0xFF m₀ m w room s))
 
-  pub pages-alike : (word count page : ℕ) (m w : List ℕ) → (page + count) * pageBytes ≤ memoryBytes n → Alike n m₀ m w → Alike n m₀ (erasedFrom word count page m) (pagesErased n word count page w)
+  pages-alike : (word count page : ℕ) (m w : List ℕ) → (page + count) * pageBytes ≤ memoryBytes n → Alike n m₀ m w → Alike n m₀ (erasedFrom word count page m) (pagesErased n word count page w)
   unfolding erasedFrom pagesErased
   pages-alike word zero page m w h s = s
   pages-alike word (suc count) page m w h s =

@@ -248,11 +248,11 @@ module _ (n : ℕ) (d : Device) (q m b y m₀ w : List ℕ) (form : Form n d) (f
         status = λ t. status-right (ap isGetStatus (t .asked)) status-held;
       })
 
-  pub serve-right-on : (d′ : Device) (w′ : List ℕ) → moves n d w (request q) ≡ goes d′ w′ → (fails (request q) (serveOf n d q m b y) ≡ false) × Stands n m₀ (worldOf (serveOf n d q m b y)) d′ w′
+  serve-right-on : (d′ : Device) (w′ : List ℕ) → moves n d w (request q) ≡ goes d′ w′ → (fails (request q) (serveOf n d q m b y) ≡ false) × Stands n m₀ (worldOf (serveOf n d q m b y)) d′ w′
   unfolding moves requestMoves serveOf
   serve-right-on d′ w′ e = decided-right (commandOf (drop 8 q)) .on d′ w′ e
 
-  pub serve-right-down : Zeros → moves n d w (request q) ≡ falls → fails (request q) (serveOf n d q m b y) ≡ true
+  serve-right-down : Zeros → moves n d w (request q) ≡ falls → fails (request q) (serveOf n d q m b y) ≡ true
   unfolding moves requestMoves serveOf
   serve-right-down z e = decided-right (commandOf (drop 8 q)) .down z e
 

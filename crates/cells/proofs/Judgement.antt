@@ -175,7 +175,7 @@ module _ (n : ℕ) (es : List Event) (image card : List ℕ) (d : Device) (w : L
     unfolding endOfAll endFails
     end-before j h = by-lt j 1 (λ l. let z : j ≡ 0 = omega arith in rw z) (λ l. lowest-before endOfAll 3 1 j l h)
 
-    pub end-judged : Judged n es image card (endVerdict n image card d w)
+    end-judged : Judged n es image card (endVerdict n image card d w)
     unfolding endVerdict endNumber endOfAll
     end-judged =
         let c = lowestFrom endOfAll 3 1 in

@@ -60,7 +60,7 @@ module _ (n : ℕ) (b w : List ℕ) where
   store-has count (InRam at) h = h
   store-has count (InOptions at) h = h
 
-  pub action-has : (protected : Bool) (pointer : ℕ) (pending : Pending) → Held n pending b w → Has (actionIn pending n protected pointer)
+  action-has : (protected : Bool) (pointer : ℕ) (pending : Pending) → Held n pending b w → Has (actionIn pending n protected pointer)
   action-has protected pointer Nothing h = refl
   action-has protected pointer (SetPointer address) h = by-bool (inRegion n address) (λ e. rw e) (λ e. rw e)
   action-has true pointer (ErasePage address) h = refl

@@ -58,10 +58,10 @@ module _ (n : ℕ) (some : 1 ≤ n) (m₀ : List ℕ) (x : World) (d : Device) (
   own-stands : Stands n m₀ x (x .device) w
   own-stands = record { device = refl; alike = st .alike; held = rw (st .device) (st .held); block = st .block; reply = st .reply }
 
-  pub one-on : (e : Event) → Fitting e → (d′ : Device) (w′ : List ℕ) → moves n d w e ≡ goes d′ w′ → (fails e (steppedOf n x e) ≡ false) × Stands n m₀ (worldOf (steppedOf n x e)) d′ w′
+  one-on : (e : Event) → Fitting e → (d′ : Device) (w′ : List ℕ) → moves n d w e ≡ goes d′ w′ → (fails e (steppedOf n x e) ≡ false) × Stands n m₀ (worldOf (steppedOf n x e)) d′ w′
   one-on e f d′ w′ h = event-on n m₀ (x .device) (x .memory) (x .block) (x .reply) w own-form own-stands e f d′ w′ (ap (λ (y : Device). moves n y w e) (st .device) ∙ h)
 
-  pub one-down : (e : Event) → Fitting e → ((i : ℕ) → i < optionsFrom n → getD m₀ i 0 ≡ 0) → moves n d w e ≡ falls → fails e (steppedOf n x e) ≡ true
+  one-down : (e : Event) → Fitting e → ((i : ℕ) → i < optionsFrom n → getD m₀ i 0 ≡ 0) → moves n d w e ≡ falls → fails e (steppedOf n x e) ≡ true
   one-down e f z h = event-down n m₀ (x .device) (x .memory) (x .block) (x .reply) w own-form own-stands e f z (ap (λ (y : Device). moves n y w e) (st .device) ∙ h)
 
 module _ (n : ℕ) (some : 1 ≤ n) (m₀ : List ℕ) where

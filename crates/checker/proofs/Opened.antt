@@ -40,7 +40,7 @@ module _ (n from at : ℕ) (xs ys w : List ℕ) (e : at ≡ from + length xs) (h
   unfolding learnt marked filled ones
   is-put k zs v = refl
 
-  pub learnt-behind : learnt n at ys (learnt n from xs w) ≡ learnt n from (xs ++ ys) w
+  learnt-behind : learnt n at ys (learnt n from xs w) ≡ learnt n from (xs ++ ys) w
   learnt-behind =
       let a = ones-length xs in
       let b = ones-length ys in

@@ -39,7 +39,7 @@ pub record Calm (mode : Mode) : Type 0 where
   pub sync : isMode 3 mode ≡ false
   pub error : isMode 10 mode ≡ false
 
-pub calm-wire : (mode : Mode) (k : ℕ) → isMode k mode ≡ true → eqb k 3 ≡ false → eqb k 10 ≡ false → Calm mode
+calm-wire : (mode : Mode) (k : ℕ) → isMode k mode ≡ true → eqb k 3 ≡ false → eqb k 10 ≡ false → Calm mode
 calm-wire mode k e a b =
     let w : wireOf mode ≡ k = eqb-true (wireOf mode) k e in
     record { sync = rw w a; error = rw w b }
@@ -70,7 +70,7 @@ upload-calm Left a = absurd (false≢true a)
 upload-calm Rebooting a = absurd (false≢true a)
 
 -- where no command can be pending, none is
-pub none-pending : (mode : Mode) (pending : Pending) → isMode 3 mode ≡ false → pendingFits mode pending ≡ true → pending ≡ Nothing
+none-pending : (mode : Mode) (pending : Pending) → isMode 3 mode ≡ false → pendingFits mode pending ≡ true → pending ≡ Nothing
 none-pending mode Nothing s p = refl
 none-pending mode (SetPointer address) s p = absurd (false≢true (sym s ∙ p))
 none-pending mode (ErasePage address) s p = absurd (false≢true (sym s ∙ p))
@@ -79,14 +79,14 @@ none-pending mode ReadUnprotect s p = absurd (false≢true (sym s ∙ p))
 none-pending mode (Write block count) s p = absurd (false≢true (sym s ∙ and-true (isMode 3 mode) (writeFits block count) p .0))
 
 -- outside mode 10 the status is 0
-pub status-zero : (mode : Mode) (status : ℕ) → isMode 10 mode ≡ false → statusFits mode status ≡ true → eqb status 0 ≡ true
+status-zero : (mode : Mode) (status : ℕ) → isMode 10 mode ≡ false → statusFits mode status ≡ true → eqb status 0 ≡ true
 status-zero mode status e s = rw e at s
 
 module _ (n : ℕ) (d : Device) (f : Form n d) where
   pub idled-form : Form n (idled d)
   idled-form = record { pointer = f .pointer; pending = refl; status = refl }
 
-  pub failed-form : (status : ℕ) → statusFits Error status ≡ true → Form n (failed d status)
+  failed-form : (status : ℕ) → statusFits Error status ≡ true → Form n (failed d status)
   failed-form status s = record { pointer = f .pointer; pending = refl; status = s }
 
   -- the error mode keeps its own status, which fits

@@ -10,7 +10,6 @@ use lib.ListN.{length, take, drop, getD, set, drop-of-length-le}
 use lib.Seq.{drop-cons, sets}
 use borrow.Author.Tests.{lt-ltb, le-ltb, ltb-true, ne-eqb}
 use Rattle.laws.specs.Bytes.{put}
-use Rattle.laws.proofs.Append.{put-over}
 use Rattle.laws.proofs.Bytes.{sets-turn, sets-end, sets-put}
 use Rattle.laws.proofs.Split.{by-lt, and-true, and-right-false, and-right-true}
 use Rattle.hex.specs.Hex.{valueOf, digitOf, byteOf, faultOf, allDigits, bytesOf, hexOf, allBytes}
@@ -166,7 +165,3 @@ spell-end m m₀ xs at i h e room =
     let r : at + length (hexOf xs) ≤ length m₀ = rw (hex-length xs) room in
     let d : drop i xs ≡ [] = drop-of-length-le xs h in
     (rw d at e) ∙ sets-put (hexOf xs) m₀ at r
-
--- a field that spells as many bytes as a list has replaces it
-pub read-over : (m ds : List ℕ) → length m ≤ length ds / 2 → put 0 (bytesOf ds) m ≡ bytesOf ds
-read-over m ds h = put-over (bytesOf ds) m (rw (bytes-length ds) h)

@@ -8,32 +8,32 @@ use borrow.Author.Tests.{le-leb, lt-leb, lt-ltb, le-ltb}
 use Rattle.laws.proofs.Split.{by-lt, and-right-false}
 use Rattle.hex.specs.Hex.{valueOf, digitOf, byteOf, faultOf}
 
-pub value-low : (d : ℕ) → 48 ≤ d → d < 58 → valueOf d ≡ d - 48
+value-low : (d : ℕ) → 48 ≤ d → d < 58 → valueOf d ≡ d - 48
 unfolding valueOf
 value-low d h k =
     let n : d ≤ 57 = omega arith in
     rw (le-leb 48 d h, le-leb d 57 n)
 
-pub value-high : (d : ℕ) → 65 ≤ d → d < 71 → valueOf d ≡ d - 55
+value-high : (d : ℕ) → 65 ≤ d → d < 71 → valueOf d ≡ d - 55
 unfolding valueOf
 value-high d h k =
     let n : 57 < d = omega arith in
     let m : d ≤ 70 = omega arith in
     rw (lt-leb d 57 n, and-right-false (leb 48 d), le-leb 65 d h, le-leb d 70 m)
 
-pub value-above : (d : ℕ) → 71 ≤ d → valueOf d ≡ 16
+value-above : (d : ℕ) → 71 ≤ d → valueOf d ≡ 16
 unfolding valueOf
 value-above d h =
     let n : 57 < d = omega arith in
     rw (lt-leb d 57 n, and-right-false (leb 48 d), lt-leb d 70 h, and-right-false (leb 65 d))
 
-pub value-below : (d : ℕ) → d < 48 → valueOf d ≡ 16
+value-below : (d : ℕ) → d < 48 → valueOf d ≡ 16
 unfolding valueOf
 value-below d h =
     let n : d < 65 = omega arith in
     rw (lt-leb 48 d h, lt-leb 65 d n)
 
-pub value-between : (d : ℕ) → 58 ≤ d → d < 65 → valueOf d ≡ 16
+value-between : (d : ℕ) → 58 ≤ d → d < 65 → valueOf d ≡ 16
 unfolding valueOf
 value-between d h k = rw (lt-leb d 57 h, and-right-false (leb 48 d), lt-leb 65 d k)
 
@@ -60,7 +60,7 @@ value-digit x =
     ap valueOf (digit-high x h) ∙ value-high (x % 16 + 55) a b ∙ e)
 
 -- the bytes that are digits: 0 to 9, and A to F
-pub digit-ranges : (d : ℕ) → valueOf d < 16 → ((48 ≤ d) × (d < 58)) ⊎ ((65 ≤ d) × (d < 71))
+digit-ranges : (d : ℕ) → valueOf d < 16 → ((48 ≤ d) × (d < 58)) ⊎ ((65 ≤ d) × (d < 71))
 digit-ranges d v =
     by-lt d 58
     (λ h. by-lt d 48 (λ l. let e : valueOf d ≡ 16 = value-below d l in absurd (omega arith)) (λ l. inl (l, h)))
@@ -70,7 +70,7 @@ digit-ranges d v =
     (λ l. by-lt d 71 (λ m. inr (l, m)) (λ m. let e : valueOf d ≡ 16 = value-above d m in absurd (omega arith))))
 
 -- a digit is the capital digit of its value
-pub digit-value : (d : ℕ) → valueOf d < 16 → digitOf (valueOf d) ≡ d
+digit-value : (d : ℕ) → valueOf d < 16 → digitOf (valueOf d) ≡ d
 digit-value d v =
     ⊎-elim
     (λ r.
@@ -91,7 +91,7 @@ digit-above x =
     (λ h. let e : digitOf x ≡ x % 16 + 55 = digit-high x h in omega arith)
 
 -- the digit of a number is that of its low half
-pub digit-mod : (x : ℕ) → digitOf (x % 16) ≡ digitOf x
+digit-mod : (x : ℕ) → digitOf (x % 16) ≡ digitOf x
 unfolding digitOf
 digit-mod x =
     let e : x % 16 % 16 ≡ x % 16 = omega arith in

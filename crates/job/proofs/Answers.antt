@@ -39,7 +39,7 @@ pub left-injective : (r s : Done) (x y : List ℕ) → left r x ≡ left s y →
 left-injective r s x y e = (told-injective r s (ap (λ (o : Outcome). o .answer) e), ap (λ (o : Outcome). o .buffer) e)
 
 -- what was delivered, where an answer of n bytes was given
-pub delivered-bytes : (xs out : List ℕ) (n : ℕ) → delivered xs out .answer ≡ 0 ∷ n ∷ [] → (n ≡ length xs) × (delivered xs out .buffer ≡ put 0 xs out)
+delivered-bytes : (xs out : List ℕ) (n : ℕ) → delivered xs out .answer ≡ 0 ∷ n ∷ [] → (n ≡ length xs) × (delivered xs out .buffer ≡ put 0 xs out)
 unfolding delivered first second
 delivered-bytes xs out n e =
     by-bool (leb (length xs) (length out))
@@ -52,7 +52,7 @@ delivered-room xs out h = rw (le-leb (length xs) (length out) h)
 
 -- the reader in each case
 module _ (t out : List ℕ) where
-  pub read-long : limit < length t → readOf t out ≡ left (Refused Text) out
+  read-long : limit < length t → readOf t out ≡ left (Refused Text) out
   unfolding readOf
   read-long h = rw (lt-ltb limit (length t) h)
 
@@ -130,11 +130,11 @@ module _ (t out : List ℕ) (r : Done) (is : told r ≡ told (measureOf t)) wher
 
 -- the writer in each case
 module _ (p out : List ℕ) where
-  pub write-broken : packs p ≡ false → writeOf p out ≡ left (Refused Request) out
+  write-broken : packs p ≡ false → writeOf p out ≡ left (Refused Request) out
   unfolding writeOf
   write-broken h = rw h
 
-  pub write-long : packs p ≡ true → limit < length (textOf (unpacked p)) → writeOf p out ≡ left (Refused Text) out
+  write-long : packs p ≡ true → limit < length (textOf (unpacked p)) → writeOf p out ≡ left (Refused Text) out
   unfolding writeOf
   write-long h l = rw (h, lt-ltb limit (length (textOf (unpacked p))) l)
 

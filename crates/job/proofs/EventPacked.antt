@@ -21,7 +21,7 @@ pub size-some : (p : List ℕ) → 1 ≤ pieceSize p
 unfolding pieceSize
 size-some p = by-bool (eqb (getD p 0 0) 1) (λ e. rw e (omega arith)) (λ e. rw e (omega arith))
 
-pub pieces-after : (k : ℕ) (p : List ℕ) → piecesAfter k p ≡ piecesAfter 0 (drop k p)
+pieces-after : (k : ℕ) (p : List ℕ) → piecesAfter k p ≡ piecesAfter 0 (drop k p)
 unfolding piecesAfter
 pieces-after zero p = refl
 pieces-after (suc k) [] = refl
@@ -38,7 +38,7 @@ pieces-first (x ∷ p) h =
     (pieces-after (pieceSize (x ∷ p) - 1) p ∙ ap (λ (n : ℕ). piecesAfter 0 (drop n (x ∷ p))) e)
 
 -- the packed bytes of an event that fits are the first piece of a list that begins with them
-pub pack-size : (e : Event) (s : List ℕ) → fits e ≡ true → pieceSize (packOf e ++ s) ≡ length (packOf e)
+pack-size : (e : Event) (s : List ℕ) → fits e ≡ true → pieceSize (packOf e ++ s) ≡ length (packOf e)
 unfolding pieceSize packOf fits
 pack-size attach s f = refl
 pack-size (request q) s f =
@@ -46,7 +46,7 @@ pack-size (request q) s f =
     let e : dataLength (setupOf (q ++ s)) ≡ dataLength (setupOf q) = ap dataLength (setup-front q s (fits-eight q f)) in
     omega arith
 
-pub pack-first : (e : Event) (s : List ℕ) → fits e ≡ true → firstPiece (packOf e ++ s) ≡ packOf e
+pack-first : (e : Event) (s : List ℕ) → fits e ≡ true → firstPiece (packOf e ++ s) ≡ packOf e
 unfolding firstPiece
 pack-first e s f = ap (λ (n : ℕ). take n (packOf e ++ s)) (pack-size e s f) ∙ take-append-seam (packOf e) s
 
@@ -55,18 +55,18 @@ unfolding packOf
 pack-some attach = omega arith
 pack-some (request q) = omega arith
 
-pub pieces-pack : (e : Event) (s : List ℕ) → fits e ≡ true → piecesAfter 0 (packOf e ++ s) ≡ packOf e ∷ piecesAfter 0 s
+pieces-pack : (e : Event) (s : List ℕ) → fits e ≡ true → piecesAfter 0 (packOf e ++ s) ≡ packOf e ∷ piecesAfter 0 s
 pieces-pack e s f =
     let k : 0 < length (packOf e ++ s) = let h = pack-some e in rw (length-append (packOf e) s) (omega arith) in
     pieces-first (packOf e ++ s) k
     ∙ ap₂ _∷_ (pack-first e s f) (ap (λ (n : ℕ). piecesAfter 0 (drop n (packOf e ++ s))) (pack-size e s f) ∙ ap (piecesAfter 0) (drop-append-seam (packOf e) s))
 
-pub pack-event : (e : Event) → eventIn (packOf e) ≡ e
+pack-event : (e : Event) → eventIn (packOf e) ≡ e
 unfolding eventIn packOf
 pack-event attach = refl
 pack-event (request q) = refl
 
-pub pack-well : (e : Event) → fits e ≡ true → wellPacked (packOf e) ≡ true
+pack-well : (e : Event) → fits e ≡ true → wellPacked (packOf e) ≡ true
 unfolding wellPacked
 pack-well e f = rw (pack-event e, f) (same-refl (packOf e))
 

@@ -55,7 +55,7 @@ unfolding lineOf
 line-some attach = omega arith
 line-some (request q) = omega arith
 
-pub lines-line : (e : Event) (s : List ℕ) → linesOf (lineOf e ++ s) ≡ lineOf e ∷ linesOf s
+lines-line : (e : Event) (s : List ℕ) → linesOf (lineOf e ++ s) ≡ lineOf e ∷ linesOf s
 lines-line e s =
     let k : 0 < length (lineOf e ++ s) = let h = line-some e in rw (length-append (lineOf e) s) (omega arith) in
     let f : firstLine (lineOf e ++ s) ≡ lineOf e = line-first e s in
@@ -102,11 +102,11 @@ joined-lines (x ∷ t) =
     (λ e. rw e (joined-onto x (linesOf t) ∙ ap (λ (l : List ℕ). x ∷ l) (joined-lines t)))
 
 -- a well-formed line is the line of its event, which is proper
-pub formed-line : (l : List ℕ) → wellFormed l ≡ true → lineOf (eventOf l) ≡ l
+formed-line : (l : List ℕ) → wellFormed l ≡ true → lineOf (eventOf l) ≡ l
 unfolding wellFormed
 formed-line l h = sym (same-eq l (lineOf (eventOf l)) (and-true (fits (eventOf l)) (same l (lineOf (eventOf l))) h .1))
 
-pub formed-fits : (l : List ℕ) → wellFormed l ≡ true → fits (eventOf l) ≡ true
+formed-fits : (l : List ℕ) → wellFormed l ≡ true → fits (eventOf l) ≡ true
 unfolding wellFormed
 formed-fits l h = and-true (fits (eventOf l)) (same l (lineOf (eventOf l))) h .0
 
@@ -154,7 +154,7 @@ pub record Names (ls : List (List ℕ)) (i : ℕ) : Type 0 where
   pub malformed : wellFormed (getD ls i []) ≡ false
   pub before : (j : ℕ) → j < i → wellFormed (getD ls j []) ≡ true
 
-pub bad-names : (ls : List (List ℕ)) (k m : ℕ) → badFrom (suc k) ls ≡ suc m → (k ≤ m) × Names ls (m - k)
+bad-names : (ls : List (List ℕ)) (k m : ℕ) → badFrom (suc k) ls ≡ suc m → (k ≤ m) × Names ls (m - k)
 unfolding badFrom
 bad-names [] k m h = absurd (omega arith)
 bad-names (l ∷ ls) k m h =

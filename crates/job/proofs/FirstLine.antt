@@ -55,7 +55,7 @@ first-length [] = omega arith
 first-length (x ∷ u) = by-bool (eqb x 10) (λ e. rw e (omega arith)) (λ e. rw e (let h = first-length u in omega arith))
 
 -- digits do not end a line
-pub first-hex : (xs s : List ℕ) → firstLine (hexOf xs ++ s) ≡ hexOf xs ++ firstLine s
+first-hex : (xs s : List ℕ) → firstLine (hexOf xs ++ s) ≡ hexOf xs ++ firstLine s
 unfolding firstLine hexOf
 first-hex [] s = refl
 first-hex (x ∷ xs) s =

@@ -71,7 +71,7 @@ module _ (a b : List ℕ) (la : length a ≡ 8) (ha : allBytes a ≡ true) (hb :
       (ap₂ _++_ (ap bytesOf (f .setup) ∙ bytes-hex a ha)
       (ap bytesOf (ap (λ (n : ℕ). take n (drop 19 (spelled a b []))) k ∙ f .body) ∙ bytes-hex b hb))
 
-  pub line-spelled : lineOf (request (a ++ b)) ≡ spelled a b []
+  line-spelled : lineOf (request (a ++ b)) ≡ spelled a b []
   unfolding lineOf
   line-spelled = ap₂ (λ (x : List ℕ) (y : List ℕ). spelled x y []) (take-at a b 8 la) (drop-at a b 8 la)
 
@@ -93,7 +93,7 @@ pub record Asks (u : List ℕ) : Type 0 where
 pub asks-facts : {u : List ℕ} → (x : Asks u) → Spelled u (x .a) (x .b) (x .r)
 asks-facts {u} x = rw (x .is) (spelled-facts (x .a) (x .b) (x .r) (x .whole))
 
-pub asks-first : {u : List ℕ} → (x : Asks u) → firstLine u ≡ spelled (x .a) (x .b) []
+asks-first : {u : List ℕ} → (x : Asks u) → firstLine u ≡ spelled (x .a) (x .b) []
 asks-first x = ap firstLine (x .is) ∙ first-spelled (x .a) (x .b) (x .r)
 
 pub asks-event : {u : List ℕ} → (x : Asks u) → eventOf (firstLine u) ≡ request (x .a ++ x .b)

@@ -55,7 +55,7 @@ attaches u h k =
     let i : u ≡ 65 ∷ 10 ∷ drop (length l) u = sym (first-rest u) ∙ ap (λ (x : List ℕ). x ++ drop (length l) u) s in
     record { first = s; event = e; is = i ∙ ap (λ (n : ℕ). 65 ∷ 10 ∷ drop n u) (ap length s) }
 
-pub attach-formed : (u : List ℕ) → getD u 0 0 ≡ 65 → getD u 1 0 ≡ 10 → wellFormed (firstLine u) ≡ true
+attach-formed : (u : List ℕ) → getD u 0 0 ≡ 65 → getD u 1 0 ≡ 10 → wellFormed (firstLine u) ≡ true
 unfolding wellFormed fits lineOf
 attach-formed [] k e = absurd (omega arith)
 attach-formed (x ∷ []) k e = absurd (omega arith)

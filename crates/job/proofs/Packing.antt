@@ -17,7 +17,7 @@ use Rattle.job.specs.Text.{firstLine, eventOf}
 use Rattle.job.proofs.Formed.{Asks, asks-facts, asks-event, asks-length, asks-setup, asks-data}
 use Rattle.job.proofs.LineLength.{Attaches}
 
-pub asks-packed : {u : List ℕ} → (x : Asks u) → packOf (eventOf (firstLine u)) ≡ 1 ∷ (x .a ++ x .b)
+asks-packed : {u : List ℕ} → (x : Asks u) → packOf (eventOf (firstLine u)) ≡ 1 ∷ (x .a ++ x .b)
 unfolding packOf
 asks-packed x = ap packOf (asks-event x)
 

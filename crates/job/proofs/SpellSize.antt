@@ -21,11 +21,11 @@ use Rattle.job.proofs.Spelling.{spelled-size}
 use Rattle.job.proofs.EventPacked.{size-some, pieces-first, well-pack, well-fits}
 use Rattle.job.proofs.PieceLength.{piece-good, piece-bad}
 
-pub capped-over : (n : ℕ) → limit < n → limit + 1 ≡ capped n
+capped-over : (n : ℕ) → limit < n → limit + 1 ≡ capped n
 unfolding capped
 capped-over n h = rw (lt-ltb limit n h)
 
-pub capped-within : (n : ℕ) → n ≤ limit → n ≡ capped n
+capped-within : (n : ℕ) → n ≤ limit → n ≡ capped n
 unfolding capped
 capped-within n h = rw (le-ltb limit n h)
 
@@ -82,7 +82,7 @@ line-length-of q h =
     let d : length (drop 8 q) ≡ length q - 8 = length-drop 8 q in
     spelled-size (take 8 q) (drop 8 q) [] l ∙ (let e : 20 + length (drop 8 q) * 2 + 0 ≡ 20 + (length q - 8) * 2 = omega arith in e)
 
-pub attach-length : length (lineOf attach) ≡ 2
+attach-length : length (lineOf attach) ≡ 2
 unfolding lineOf
 attach-length = refl
 
@@ -149,7 +149,7 @@ module _ (p : List ℕ) (at piece : ℕ) (more : at < length p) (is : piece ≡ 
     unfolding unpacked eventsAmong textOf
     turn-text = rw pieces
 
-    pub turn-line : length (lineOf (eventIn (firstPiece (drop at p)))) ≡ lineSize piece
+    turn-line : length (lineOf (eventIn (firstPiece (drop at p)))) ≡ lineSize piece
     turn-line = line-size-of (eventIn (firstPiece (drop at p))) (well-fits (firstPiece (drop at p)) well) ∙ ap (λ (l : List ℕ). lineSize (length l)) (well-pack (firstPiece (drop at p)) well) ∙ ap lineSize (sym piece-is)
 
     pub turn-capped : (size longer total : ℕ) → longer ≡ capped (size + lineSize piece) → capped (size + length (textOf (unpacked (drop at p)))) ≡ total → capped (longer + length (textOf (unpacked (drop (at + piece) p)))) ≡ total

@@ -38,7 +38,7 @@ module _ (t : List ℕ) (at : ℕ) (e : Event) (es : List Event) (is : drop at t
   first = ap firstLine goes-on ∙ line-first e (textOf es)
 
   -- the item is that of e
-  pub item-here : itemOf t at ≡ itemFor at (length (lineOf e)) e
+  item-here : itemOf t at ≡ itemFor at (length (lineOf e)) e
   unfolding itemOf
   item-here =
       let p = proper-parts e es ok in
@@ -53,7 +53,7 @@ module _ (t : List ℕ) (at : ℕ) (e : Event) (es : List Event) (is : drop at t
       omega arith
 
   -- and behind its line the text is that of es
-  pub next-here : drop (at + length (lineOf e)) t ≡ textOf es
+  next-here : drop (at + length (lineOf e)) t ≡ textOf es
   next-here = sym (drop-drop (length (lineOf e)) at t) ∙ ap (drop (length (lineOf e))) goes-on ∙ drop-append-seam (lineOf e) (textOf es)
 
 -- the data of a request stand as digits from 19 bytes behind the place of its line
@@ -78,7 +78,7 @@ line-ends q f =
     omega arith
 
 -- where the text is at its end
-pub item-last : (t : List ℕ) (at : ℕ) → drop at t ≡ textOf [] → itemOf t at ≡ item.End
+item-last : (t : List ℕ) (at : ℕ) → drop at t ≡ textOf [] → itemOf t at ≡ item.End
 unfolding textOf itemOf
 item-last t at is =
     let l : length (drop at t) ≡ 0 = ap length is in

@@ -24,11 +24,11 @@ use Rattle.job.proofs.Formed.{Asks, asks, asks-event, asks-length, asks
 use Rattle.job.proofs.LineLength.{length-good, length-bad, Attaches, attaches}
 
 -- a length that is not 0 is that of a well-formed line
-pub formed-if : (u : List ℕ) → (lineLength u ≡ 0 → ⊥) → wellFormed (firstLine u) ≡ true
+formed-if : (u : List ℕ) → (lineLength u ≡ 0 → ⊥) → wellFormed (firstLine u) ≡ true
 formed-if u n = by-bool (wellFormed (firstLine u)) (λ h. h) (λ h. absurd (n (sym (length-bad u h))))
 
 -- and a length of 0 that of a malformed one
-pub malformed-if : (u : List ℕ) → 0 < length u → lineLength u ≡ 0 → wellFormed (firstLine u) ≡ false
+malformed-if : (u : List ℕ) → 0 < length u → lineLength u ≡ 0 → wellFormed (firstLine u) ≡ false
 malformed-if u s z =
     by-bool (wellFormed (firstLine u))
     (λ h. let l : lineLength u ≡ length (firstLine u) = length-good u h in let w = first-some u s in absurd (omega arith))
@@ -39,10 +39,10 @@ pub setup-here : (t : List ℕ) (at : ℕ) → take (at + 18 - (at + 2)) (drop (
 setup-here t at = let n : at + 18 - (at + 2) ≡ 16 = omega arith in ap₂ take n (sym (drop-drop 2 at t))
 
 -- by its length a line is of `A` or of `Q`
-pub short-attaches : (u : List ℕ) → wellFormed (firstLine u) ≡ true → length (firstLine u) < 20 → Attaches u
+short-attaches : (u : List ℕ) → wellFormed (firstLine u) ≡ true → length (firstLine u) < 20 → Attaches u
 short-attaches u h l = by-eq (getD u 0 0) 65 (attaches u h) (λ n. let x = asks u h n in let s = asks-length x in absurd (omega arith))
 
-pub long-asks : (u : List ℕ) → wellFormed (firstLine u) ≡ true → 20 ≤ length (firstLine u) → Asks u
+long-asks : (u : List ℕ) → wellFormed (firstLine u) ≡ true → 20 ≤ length (firstLine u) → Asks u
 long-asks u h l = by-eq (getD u 0 0) 65 (λ k. let s = ap length (attaches u h k .first) in absurd (omega arith)) (asks u h)
 
 -- how many bytes the event of the first line packs into
@@ -81,7 +81,7 @@ module _ (t : List ℕ) (at line : ℕ) (more : at < length t) (is : line ≡ li
     formed : wellFormed (firstLine (drop at t)) ≡ true
     formed = formed-if (drop at t) (λ z. nonzero (left-is ∙ z))
 
-    pub line-is : line ≡ length (firstLine (drop at t))
+    line-is : line ≡ length (firstLine (drop at t))
     line-is = left-is ∙ length-good (drop at t) formed
 
     after : drop (length (firstLine (drop at t))) (drop at t) ≡ drop (at + line) t
@@ -94,7 +94,7 @@ module _ (t : List ℕ) (at line : ℕ) (more : at < length t) (is : line ≡ li
     unfolding badFrom
     turn-good number = rw (lines, formed, add-one number)
 
-    pub turn-events : eventsOf (drop at t) ≡ eventOf (firstLine (drop at t)) ∷ eventsOf (drop (at + line) t)
+    turn-events : eventsOf (drop at t) ≡ eventOf (firstLine (drop at t)) ∷ eventsOf (drop (at + line) t)
     unfolding eventsOf eventsIn
     turn-events = rw lines
 

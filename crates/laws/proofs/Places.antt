@@ -8,7 +8,7 @@ use lib.Seq.{length-take-le, getD-take, getD-drop, getD-append-add}
 use Rattle.laws.specs.Bytes.{put}
 
 -- behind a list, places count from its end on
-pub getD-behind : (xs ys : List ℕ) (i : ℕ) → length xs ≤ i → getD (xs ++ ys) i 0 ≡ getD ys (i - length xs) 0
+getD-behind : (xs ys : List ℕ) (i : ℕ) → length xs ≤ i → getD (xs ++ ys) i 0 ≡ getD ys (i - length xs) 0
 getD-behind xs ys i h =
     let e : i ≡ length xs + (i - length xs) = omega arith in
     ap (λ (k : ℕ). getD (xs ++ ys) k 0) e ∙ getD-append-add xs ys (i - length xs) 0

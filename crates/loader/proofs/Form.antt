@@ -119,7 +119,7 @@ module _ (n pointer : ℕ) (b m : List ℕ) (p : inRegion n pointer ≡ true) wh
   performed-sane (StoreOptions at count) h = went-well (StoreOptions at count) p
 
 module _ (n : ℕ) (d : Device) (m b y : List ℕ) (f : Form n d) where
-  pub run-sane : Sane n (runOf n d b m .ran)
+  run-sane : Sane n (runOf n d b m .ran)
   unfolding runOf actionOf
   run-sane =
       by-bool (isMode 3 (d .mode))
@@ -150,7 +150,7 @@ module _ (n : ℕ) (d : Device) (m b y : List ℕ) (f : Form n d) where
   acted-form decided.State q h = f
   acted-form decided.Status q h = status-form
 
-  pub serve-form : (q : List ℕ) → Form n (serveOf n d q m b y .device)
+  serve-form : (q : List ℕ) → Form n (serveOf n d q m b y .device)
   unfolding serveOf
   serve-form q = acted-form (decideOf d (setupOf q) (commandOf (drop 8 q))) q (decide-formed n d f (setupOf q) (commandOf (drop 8 q)))
 

@@ -15,7 +15,7 @@ use Rattle.memory.specs.Flash.{kept, each, stored}
 use Rattle.memory.proofs.Flash.{storedOne, stored-cons, stored-none}
 
 module _ (word at x : ℕ) (m : List ℕ) where
-  pub one-length : length (storedOne word at x m) ≡ length m
+  one-length : length (storedOne word at x m) ≡ length m
   unfolding storedOne
   one-length = by-bool (kept word at) (λ e. rw e) (λ e. rw e (length-set m at x))
 

@@ -6,7 +6,7 @@ use native.Mathlib.Omega.{arith}
 use lib.Dec.{eqb}
 use lib.ListN.{length, drop, getD, length-append, length-drop}
 use lib.Seq.{getD-take, getD-drop, length-take-le, take-all}
-use borrow.Author.Tests.{eqb-true, eqb-false, ne-eqb}
+use borrow.Author.Tests.{eqb-true, eqb-false}
 use Rattle.laws.proofs.Bytes.{take-at-most}
 use Rattle.laws.proofs.Split.{by-bool, by-lt}
 use Rattle.board.specs.Layout.{pageBytes}
@@ -55,11 +55,3 @@ page-some image page h =
     by-lt (length (drop (page * pageBytes) image)) pageBytes
     (λ a. let b : length (drop (page * pageBytes) image) ≤ pageBytes = omega arith in rw (take-all pageBytes (drop (page * pageBytes) image) b) (omega arith))
     (λ a. rw (length-take-le pageBytes (drop (page * pageBytes) image) a) (omega arith))
-
--- a page that the image fills
-pub page-full : (image : List ℕ) (page : ℕ) → (page + 1) * pageBytes ≤ length image → length (padded (pageOf image page)) ≡ pageBytes
-page-full image page h =
-    let room : pageBytes ≤ length (drop (page * pageBytes) image) = rw length-drop (omega arith) in
-    let l : length (pageOf image page) ≡ pageBytes = length-take-le pageBytes (drop (page * pageBytes) image) room in
-    let many : length (pageOf image page) ≡ 1 → ⊥ = λ e. omega arith in
-    rw (ne-eqb (length (pageOf image page)) 1 many) l

@@ -39,7 +39,7 @@ sent-length q h =
     rw (polled-text (request q), length-append, length-append) (omega arith)
 
 -- a DNLOAD has eight bytes in front of its data
-pub download-length : (value : ℕ) (xs : List ℕ) → length (polledText (download value xs)) ≡ sentBytes (length xs)
+download-length : (value : ℕ) (xs : List ℕ) → length (polledText (download value xs)) ≡ sentBytes (length xs)
 download-length value xs =
     let q : List ℕ = 0x21 ∷ 1 ∷ value % 256 ∷ value / 256 % 256 ∷ 0 ∷ 0 ∷ length xs % 256 ∷ length xs / 256 % 256 ∷ xs in
     let h : 8 ≤ length q = omega arith in

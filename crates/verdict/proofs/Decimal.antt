@@ -42,7 +42,7 @@ last-digit (suc m) h =
     digits-open (suc m) (suc m) h ∙ ap (λ (l : List ℕ). l ++ ((48 + suc m % 10) ∷ [])) e
 
 -- what holds of the one-digit numbers, and of a number where it holds of all its digits but the last, holds of every number
-pub by-digits : (P : ℕ → Type 0) → ((n : ℕ) → n < 10 → P n) → ((n : ℕ) → 10 ≤ n → P (n / 10) → P n) → (n : ℕ) → P n
+by-digits : (P : ℕ → Type 0) → ((n : ℕ) → n < 10 → P n) → ((n : ℕ) → 10 ≤ n → P (n / 10) → P n) → (n : ℕ) → P n
 by-digits P few more n = within n n (le-refl n)
   where
     within : (k n : ℕ) → n ≤ k → P n
