@@ -1,4 +1,5 @@
 // A request in words, with the addresses that it concerns.
+use crate::form;
 use crate::place;
 use crate::say;
 use decision::Command;
@@ -26,7 +27,7 @@ fn command(name: &[u8], address: u32) {
 }
 
 // A command that waits, or would.
-fn pending(pointer: u32, pending: Pending) {
+pub(crate) fn pending(pointer: u32, pending: Pending) {
     match pending {
         Pending::Nothing => say::text(b"a command that the loader does not know"),
         Pending::SetPointer(address) => command(b"the set pointer to ", address),
@@ -106,16 +107,24 @@ fn status(pointer: u32, waits: Pending) {
     }
 }
 
-// A request to a device in this state.
-pub(crate) fn describe(device: Device, setup: Setup, command: Command) {
+// A request that the loader knows.
+fn known(device: Device, request: Request, setup: Setup, command: Command) {
     let pointer = device.pointer;
     let waits = device.pending;
-    let request = setup.request();
     say::request(request);
     match request {
         Request::Download => download(pointer, setup, command),
         Request::Upload => upload(pointer, setup),
         Request::GetStatus => status(pointer, waits),
         _ => {}
+    }
+}
+
+// A request to a device in this state.
+pub(crate) fn describe(device: Device, setup: Setup, command: Command) {
+    let request = setup.request();
+    match request {
+        Request::Unknown => form::describe(setup),
+        _ => known(device, request, setup, command),
     }
 }

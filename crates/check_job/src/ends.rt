@@ -1,8 +1,9 @@
 // Which condition at the job's end fails, and what to do.
 use crate::place;
 use crate::say;
+use crate::trace;
 use crate::trial;
-use device::Device;
+use crate::trial::Scene;
 use device::Mode;
 
 // What is due before the job can end.
@@ -16,9 +17,22 @@ fn due(mode: Mode) {
     }
 }
 
+// The job's last line.
+fn last(count: usize) {
+    if count == 0 {
+        say::text(b"The job has no line: the loader's state still is ");
+        return;
+    }
+    say::text(b"After the job's last line (line ");
+    say::number(count);
+    say::text(b") the loader's state is ");
+}
+
 // The loader has not left.
-fn stayed(mode: Mode) {
-    say::text(b"After the job's last line the loader's state is ");
+pub(crate) fn stayed(scene: Scene) {
+    let device = scene.device;
+    let mode = device.mode;
+    last(scene.count);
     say::mode(mode);
     say::text(b", and the new program is not started. ");
     if mode.wire() == 6 {
@@ -31,34 +45,45 @@ fn stayed(mode: Mode) {
     );
 }
 
-// The loader leaves for another place than the flash's start.
-fn astray(pointer: u32) {
-    say::text(b"The job leaves with the pointer at ");
-    place::point(pointer);
+// The loader leaves for another place than the flash's start, by the DNLOAD of length 0 in line `leave`. What was watched
+// is the pointer.
+pub(crate) fn astray(scene: Scene, leave: usize) {
+    let device = scene.device;
+    say::text(b"Line ");
+    say::number(scene.changed);
+    say::text(b" of the job sets the pointer to ");
+    place::point(device.pointer);
     say::text(
-        b", and the board would start its program from there. Set the pointer to 0x08000000, with two GETSTATUS, before the DNLOAD of length 0.",
+        b", where it still is when the job leaves, and the board would start its program from there. Set the pointer to 0x08000000, with two GETSTATUS, before the DNLOAD of length 0 in line ",
     );
+    say::number(leave);
+    say::text(b".");
+}
+
+// What to do about options that are not the card's.
+fn restore(is_protected: bool) {
+    if is_protected {
+        say::text(
+            b" The card is read-protected: lift that on the board first, which erases the flash, then check a job with no read unprotect with the card that the board has then.",
+        );
+        return;
+    }
+    say::text(b" Take it out of the job, or write the card's bytes back before the job leaves.");
 }
 
 // The options are not those of the card any more.
-fn altered(memory: &[u8], card: &[u8]) {
+pub(crate) fn altered(memory: &[u8], packed: &[u8], card: &[u8]) {
     let i = trial::first_changed(memory, card);
-    say::text(b"The job turns option byte ");
-    say::number(i);
-    say::text(b" from the card's ");
-    say::byte(buffer::byte_at(card, i));
-    say::text(b" into ");
-    say::byte(trial::option(memory, i));
-    say::text(
-        b". Take out the options write or the read unprotect, or write the card's bytes back before the job leaves.",
+    trace::tell(
+        b"Line ",
+        trace::last(packed, packed.len(), card, trial::option_place(i)),
     );
-}
-
-pub(crate) fn explain(condition: u8, device: Device, memory: &[u8], card: &[u8]) {
-    let mode = device.mode;
-    match condition {
-        1 => stayed(mode),
-        2 => astray(device.pointer),
-        _ => altered(memory, card),
-    }
+    say::text(b", and option byte ");
+    say::number(i);
+    say::text(b" is ");
+    say::byte(trial::option(memory, i));
+    say::text(b" then and not ");
+    say::byte(buffer::byte_at(card, i));
+    say::text(b" as on the card.");
+    restore(board::locked(card, 0));
 }

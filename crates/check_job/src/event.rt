@@ -1,8 +1,10 @@
 // Why an event fails, and what to do.
 use crate::asked;
+use crate::form;
 use crate::place;
 use crate::say;
 use crate::trial;
+use crate::trial::Scene;
 use action::Access;
 use board::Board;
 use board::Place;
@@ -13,33 +15,23 @@ use device::Pending;
 use request::Request;
 use request::Setup;
 
+// The loader has left, by the DNLOAD of length 0 in line `leave`.
+fn gone(leave: usize) {
+    say::text(
+        b"The loader has left before this line and answers nothing. Take out the lines from here on or, where the job needs them, the DNLOAD of length 0 in line ",
+    );
+    say::number(leave);
+    say::text(b".");
+}
+
 // A device that answers nothing.
-fn silent(mode: Mode) {
+fn silent(mode: Mode, leave: usize) {
     match mode {
-        Mode::Left => say::text(
-            b"The loader has left before this line and answers nothing. Take out the lines from here on.",
-        ),
+        Mode::Left => gone(leave),
         _ => say::text(
             b"The board reboots before this line, for its options were written or its read protection was lifted, and answers nothing. Put a line A before this one.",
         ),
     }
-}
-
-// No request of the loader.
-fn unknown(setup: Setup) {
-    if setup.index != 0 {
-        say::text(b"The loader stalls it, for its wIndex is not 0. Correct the setup.");
-        return;
-    }
-    if setup.kind == 0x21 && setup.code == 1 {
-        say::text(
-            b"The loader stalls it, for a DNLOAD carries at most 2048 bytes. Write them in two or more blocks.",
-        );
-        return;
-    }
-    say::text(
-        b"The loader stalls it. Correct its type, code, wValue or wLength, or take the line out.",
-    );
 }
 
 // What has to come before a request that the mode does not take.
@@ -187,10 +179,10 @@ fn served(device: Device, setup: Setup, memory: &[u8]) {
     }
 }
 
-fn reason(device: Device, setup: Setup, memory: &[u8]) {
+fn reason(device: Device, leave: usize, setup: Setup, memory: &[u8]) {
     let mode = device.mode;
     if mode.wire() == 0 {
-        silent(mode);
+        silent(mode, leave);
         return;
     }
     let request = setup.request();
@@ -199,21 +191,23 @@ fn reason(device: Device, setup: Setup, memory: &[u8]) {
         return;
     }
     match request {
-        Request::Unknown => unknown(setup),
+        Request::Unknown => form::correct(setup),
         _ => untimely(request, mode),
     }
 }
 
-// The line of the event, its request, and the reason; `request` begins with the setup, and `memory` is as before the event.
-pub(crate) fn explain(device: Device, number: usize, request: &[u8], memory: &[u8]) {
+// The line of the event, its request, and the reason; `request` begins with the setup, `scene` and `memory` are as before
+// the event. What was watched is whether the loader leaves.
+pub(crate) fn explain(scene: Scene, number: usize, request: &[u8], memory: &[u8]) {
     if request.len() < 8 {
         return;
     }
     let setup = Setup::of(request);
+    let device = scene.device;
     say::text(b"Line ");
     say::number(number);
     say::text(b" of the job is ");
     asked::describe(device, setup, Command::of(&request[8..]));
     say::text(b". ");
-    reason(device, setup, memory);
+    reason(device, scene.changed, setup, memory);
 }

@@ -5,7 +5,9 @@ use crate::flash;
 use crate::flash::Found;
 use crate::refused;
 use crate::say;
+use crate::trace;
 use crate::trial;
+use crate::trial::Watch;
 use job::Done;
 use verdict::Verdict;
 
@@ -23,25 +25,30 @@ fn failed(number: usize, packed: &[u8], card: &[u8]) {
     if number == 0 {
         return;
     }
-    let scene = trial::run(packed, number - 1, card, &mut memory);
+    let scene = trial::run(packed, number - 1, card, &mut memory, Watch::Leaving);
     let at = scene.at;
-    let device = scene.device;
     if at < packed.len() {
-        event::explain(device, number, &packed[at + 1..], &memory);
+        event::explain(scene, number, &packed[at + 1..], &memory);
     }
 }
 
 fn ended(condition: u8, packed: &[u8], card: &[u8]) {
     let mut memory = [0u8; trial::MEMORY];
-    let scene = trial::run(packed, packed.len(), card, &mut memory);
-    let device = scene.device;
-    ends::explain(condition, device, &memory, card);
+    let scene = trial::run(packed, packed.len(), card, &mut memory, Watch::Pointer);
+    match condition {
+        1 => ends::stayed(scene),
+        2 => ends::astray(
+            scene,
+            trace::line(packed, packed.len(), card, Watch::Leaving),
+        ),
+        _ => ends::altered(&memory, packed, card),
+    }
 }
 
 // A flash byte after the job, on a board whose flash and RAM were all `old`.
 fn byte_after(offset: usize, packed: &[u8], card: &[u8], old: u8) -> u8 {
     let mut memory = [old; trial::MEMORY];
-    trial::run(packed, packed.len(), card, &mut memory);
+    trial::run(packed, packed.len(), card, &mut memory, Watch::Pointer);
     buffer::byte_at(&memory, offset)
 }
 
@@ -59,7 +66,7 @@ fn differs(offset: usize, packed: &[u8], image: &[u8], card: &[u8]) {
         erased: byte_after(offset, packed, card, 0xFF),
         want: wanted(offset, image),
     };
-    flash::explain(offset, image.len(), found, board::word(card, 0));
+    flash::explain(offset, image.len(), found, packed, card);
 }
 
 // A rejected job, packed.

@@ -94,8 +94,13 @@ fn open_default(file: usize) -> i32 {
     }
 }
 
+// Does the call name no file, so that those of the folder are taken?
+pub(crate) fn are_found() -> bool {
+    os::arg_count() < 2
+}
+
 fn open(file: usize) -> i32 {
-    if os::arg_count() < 2 {
+    if are_found() {
         return open_default(file);
     }
     open_argument(file)

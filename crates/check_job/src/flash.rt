@@ -4,7 +4,12 @@
 // job, the job set the byte; where they do not, it left it as it was.
 use crate::place;
 use crate::say;
+use crate::trace;
+use crate::trace::Trace;
+use crate::trial;
+use crate::trial::Watch;
 use board::Board;
+use device::Pending;
 
 // A byte of flash after the job: its value on either board, and the one that it has to have.
 pub struct Found {
@@ -13,12 +18,17 @@ pub struct Found {
     pub want: u8,
 }
 
+// The option byte that holds a page's bit.
+fn option_of(page: usize) -> usize {
+    8 + page / 8 % 2
+}
+
 // The story of this program: the loader answers OK and does nothing.
 fn locked(page: usize) {
     say::text(b", but page ");
     say::number(page);
     say::text(b" is write-protected by the card (option byte ");
-    say::number(8 + page / 8 % 2);
+    say::number(option_of(page));
     say::text(b", bit ");
     say::number(page % 8);
     say::text(
@@ -28,16 +38,39 @@ fn locked(page: usize) {
     say::text(b" on the board, then check again with the card that the board has then.");
 }
 
-// The job leaves the byte as it was.
-fn untouched(offset: usize) {
-    say::text(b", but the job leaves it as it was. Erase ");
+// The job leaves the byte as it was; `line` is the last that changes the page's option byte, or 0.
+fn untouched(offset: usize, line: usize) {
+    say::text(b", but the job leaves it as it was. ");
+    if line != 0 {
+        say::text(b"The job changes the write protection, last in line ");
+        say::number(line);
+        say::text(b": erase and write ");
+        place::page(offset);
+        say::text(b" while it is not write-protected.");
+        return;
+    }
+    say::text(b"Erase ");
     place::page(offset);
     say::text(b" in the job, then write the image's bytes to it.");
 }
 
-// The job sets the byte to something else.
-fn wrong(found: Found) {
-    say::text(b", but the job leaves ");
+// The job erases the byte and does not write it.
+fn blank(found: Found) {
+    say::text(b", and no write of ");
+    say::byte(found.want);
+    say::text(
+        b" to it runs after that. Write the image's bytes behind that line, each write with the GETSTATUS that runs it, or take the image that the job was made for.",
+    );
+}
+
+// The job sets the byte to something else, last by this line.
+fn wrong(found: Found, trace: Trace) {
+    trace::tell(b", but line ", trace);
+    if found.zero == 0xFF {
+        blank(found);
+        return;
+    }
+    say::text(b", which leaves ");
     say::byte(found.zero);
     say::text(b" there and not ");
     say::byte(found.want);
@@ -47,26 +80,60 @@ fn wrong(found: Found) {
 }
 
 // A byte in a page of the image.
-fn wanted(offset: usize, found: Found, word: u32) {
+fn wanted(offset: usize, found: Found, packed: &[u8], card: &[u8]) {
     let page = offset / Board::PAGE;
     if found.zero == found.erased {
-        wrong(found);
+        wrong(found, trace::last(packed, packed.len(), card, offset));
         return;
     }
-    if board::write_protected(word, page) {
+    if board::write_protected(board::word(card, 0), page) {
         locked(page);
         return;
     }
-    untouched(offset);
+    let place = trial::option_place(option_of(page));
+    untouched(
+        offset,
+        trace::line(packed, packed.len(), card, Watch::Byte(place)),
+    );
+}
+
+// What to do in place of what erases a page behind the image.
+fn spare(pending: Pending) {
+    match pending {
+        Pending::MassErase => say::text(
+            b". In place of the mass erase, erase the image's pages one by one, and write to no other.",
+        ),
+        Pending::ReadUnprotect => say::text(
+            b", which erases all flash of a read-protected board. Lift the read protection on the board first, then check a job with no read unprotect with the card that the board has then.",
+        ),
+        _ => say::text(b". Take that erase out of the job, and what it writes to this page."),
+    }
+}
+
+// What erased a byte, where this trace is of the last line that changed it: that line, or the last change before a write.
+fn eraser(trace: Trace, offset: usize, packed: &[u8], card: &[u8]) -> Trace {
+    let device = trace.device;
+    let pending = device.pending;
+    if trace.line == 0 {
+        return trace;
+    }
+    match pending {
+        Pending::Write { .. } => trace::last(packed, trace.line - 1, card, offset),
+        _ => trace,
+    }
 }
 
 // A byte in a page that the image does not reach.
-fn foreign(offset: usize) {
-    say::text(
-        b" lies behind the image's last page and has to stay as it is, but the job changes it. Take the erase and the write of ",
+fn foreign(offset: usize, packed: &[u8], card: &[u8]) {
+    let last = trace::last(packed, packed.len(), card, offset);
+    let erased = eraser(last, offset, packed, card);
+    let device = erased.device;
+    let pending = device.pending;
+    trace::tell(
+        b" lies behind the image's last page and has to stay as it is, but line ",
+        erased,
     );
-    place::page(offset);
-    say::text(b" out of the job; in place of a mass erase, erase the image's pages one by one.");
+    spare(pending);
 }
 
 // Does an offset behind an image of this size lie in its last page?
@@ -77,19 +144,19 @@ fn is_rest(offset: usize, size: usize) -> bool {
     offset / Board::PAGE == size / Board::PAGE
 }
 
-// `size` is the image's; `word` holds the card's bit of each page.
-pub(crate) fn explain(offset: usize, size: usize, found: Found, word: u32) {
+// `size` is the image's.
+pub(crate) fn explain(offset: usize, size: usize, found: Found, packed: &[u8], card: &[u8]) {
     say::text(b"The byte at ");
     place::flash(offset);
     if offset < size {
         say::text(b" belongs to the image");
-        wanted(offset, found, word);
+        wanted(offset, found, packed, card);
         return;
     }
     if is_rest(offset, size) {
         say::text(b" lies behind the image in its last page and has to be erased");
-        wanted(offset, found, word);
+        wanted(offset, found, packed, card);
         return;
     }
-    foreign(offset);
+    foreign(offset, packed, card);
 }

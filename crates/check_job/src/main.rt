@@ -6,11 +6,14 @@ mod event;
 mod explain;
 mod files;
 mod flash;
+mod form;
 mod place;
 mod refused;
 mod say;
+mod trace;
 mod trial;
 
+use board::Board;
 use files::Got;
 use job::Done;
 use libc::STDOUT_FILENO;
@@ -18,13 +21,14 @@ use refusal::Refusal;
 use verdict::Verdict;
 
 // A byte more than the longest job, image and card.
-const JOB_ROOM: usize = 60001;
+const JOB_ROOM: usize = job::LIMIT + 1;
 
-const IMAGE_ROOM: usize = 16385;
+const IMAGE_ROOM: usize = trial::FLASH + 1;
 
-const CARD_ROOM: usize = 17;
+const CARD_ROOM: usize = Board::OPTION_BYTES + 1;
 
-const WORK: usize = 38944;
+// The checker's work area has two bytes for each of the memory, and a block.
+const WORK: usize = 2 * trial::MEMORY + trial::TRANSFER;
 
 // A line has a word, a digit or two, and a number.
 const LINE_ROOM: usize = 64;

@@ -1,6 +1,7 @@
 // Why there is no verdict, and what to do.
 use crate::files;
 use crate::say;
+use board::Board;
 use refusal::Refusal;
 
 fn image(size: usize) {
@@ -14,7 +15,7 @@ fn image(size: usize) {
 
 fn card(size: usize) {
     say::text(b"The card has ");
-    if size < 16 {
+    if size < Board::OPTION_BYTES {
         say::bytes(size);
     } else {
         say::text(b"more than 16 bytes");
@@ -43,19 +44,35 @@ pub(crate) fn explain(why: Refusal, image_size: usize, card_size: usize) {
     }
 }
 
-fn name(file: usize) {
+// A file of the folder.
+fn found(file: usize) {
     match file {
-        files::JOB => say::text(b"The job (job.txt in this folder, or the first argument)"),
-        files::IMAGE => say::text(b"The image (image.bin in this folder, or the second argument)"),
-        _ => say::text(b"The card (card.bin in this folder, or the third argument)"),
+        files::JOB => say::text(b"The job (job.txt in this folder)"),
+        files::IMAGE => say::text(b"The image (image.bin in this folder)"),
+        _ => say::text(b"The card (card.bin in this folder)"),
     }
+}
+
+// A file that an argument names.
+fn named(file: usize) {
+    match file {
+        files::JOB => say::text(b"The job (the first argument)"),
+        files::IMAGE => say::text(b"The image (the second argument)"),
+        _ => say::text(b"The card (the third argument)"),
+    }
+}
+
+fn missing() {
+    if files::are_found() {
+        say::text(b"there is no such file. Put it there, or name job, image and card.");
+        return;
+    }
+    say::text(b"there is no such file. Correct the path.");
 }
 
 fn cause(error: i32) {
     match error {
-        libc::ENOENT => say::text(
-            b"there is no such file. Put it there, or name job, image and card.",
-        ),
+        libc::ENOENT => missing(),
         libc::EACCES => say::text(b"you have no permission. Have the file made readable for you."),
         libc::EISDIR => say::text(b"it is a folder. Name the file itself."),
         _ => say::text(
@@ -66,7 +83,11 @@ fn cause(error: i32) {
 
 // A file that is not readable.
 pub(crate) fn unreadable(file: usize, error: i32) {
-    name(file);
+    if files::are_found() {
+        found(file);
+    } else {
+        named(file);
+    }
     say::text(b" cannot be read: ");
     cause(error);
 }

@@ -4,26 +4,37 @@
 // does: this is the board by which the checker's proof shows that a rejected job is rightly rejected.
 use board::Board;
 use device::Device;
+use device::Mode;
 use loader::Event;
 use request::Setup;
 
-pub const MEMORY: usize = 18448;
+pub const FLASH: usize = Board::LOGGER.pages as usize * Board::PAGE;
 
-const BLOCK: usize = 2048;
+const OPTIONS_AT: usize = FLASH + Board::RAM_BYTES;
 
-const REPLY: usize = 2048;
+pub const MEMORY: usize = OPTIONS_AT + OPTIONS;
 
-const OPTIONS_AT: usize = 18432;
+const OPTIONS: usize = Board::OPTION_BYTES;
 
-const OPTIONS: usize = 16;
+pub const TRANSFER: usize = Setup::TRANSFER as usize;
 
 // The bytes of a packed request before its data: its kind byte and the setup.
 const HEAD: usize = 9;
 
-// The device after some events, and the place of the next one in the packed job.
+// What is watched while a job is played: the pointer, whether the loader leaves or has left, or a byte of the memory.
+pub enum Watch {
+    Pointer,
+    Leaving,
+    Byte(usize),
+}
+
+// The device after some events, how many they are, and the place of the next one in the packed job; `changed` is the
+// number of the last event that changed what was watched, or 0. An event's number is the number of its line.
 pub struct Scene {
     pub device: Device,
+    pub count: usize,
     pub at: usize,
+    pub changed: usize,
 }
 
 // The board gets the options of the card.
@@ -80,21 +91,63 @@ fn play(
     stepped.device
 }
 
+// What is watched, as a number.
+fn sight(watch: Watch, device: Device, memory: &[u8]) -> u32 {
+    let mode = device.mode;
+    match watch {
+        Watch::Pointer => device.pointer,
+        Watch::Leaving => leaving(mode),
+        Watch::Byte(place) => buffer::byte_at(memory, place) as u32,
+    }
+}
+
+fn leaving(mode: Mode) -> u32 {
+    match mode {
+        Mode::ManifestSync => 1,
+        Mode::Left => 1,
+        _ => 0,
+    }
+}
+
+// The number of the event, where it changed what is watched; else the number of the last one that did.
+fn latest(changed: usize, number: usize, before: u32, after: u32) -> usize {
+    if before == after {
+        return changed;
+    }
+    number
+}
+
 // The first `events` events of a job, or all where there are not so many, on a board with this card.
-pub(crate) fn run(packed: &[u8], events: usize, card: &[u8], memory: &mut [u8]) -> Scene {
-    let mut block = [0u8; BLOCK];
-    let mut reply = [0u8; REPLY];
+pub(crate) fn run(
+    packed: &[u8],
+    events: usize,
+    card: &[u8],
+    memory: &mut [u8],
+    watch: Watch,
+) -> Scene {
+    let mut block = [0u8; TRANSFER];
+    let mut reply = [0u8; TRANSFER];
     let mut device = Device::START;
     let mut at = 0;
-    let mut left = events;
+    let mut count = 0;
+    let mut changed = 0;
     equip(memory, card);
-    while left > 0 {
+    let mut seen = sight(watch, device, memory);
+    while count < events && at < packed.len() {
         let end = end_of(packed, at);
         device = play(device, packed, at, end, memory, &mut block, &mut reply);
         at = end;
-        left -= 1;
+        count += 1;
+        let now = sight(watch, device, memory);
+        changed = latest(changed, count, seen, now);
+        seen = now;
     }
-    Scene { device, at }
+    Scene {
+        device,
+        count,
+        at,
+        changed,
+    }
 }
 
 // The first place from `from` on whose byte is not erased, outside write-protected pages.
@@ -110,12 +163,17 @@ pub(crate) fn first_written(memory: &[u8], from: usize) -> usize {
     i
 }
 
+// The place of an option byte in the memory, or the memory's end where there is none.
+pub(crate) fn option_place(i: usize) -> usize {
+    if OPTIONS <= i {
+        return MEMORY;
+    }
+    OPTIONS_AT + i
+}
+
 // An option byte.
 pub(crate) fn option(memory: &[u8], i: usize) -> u8 {
-    if OPTIONS <= i {
-        return 0;
-    }
-    buffer::byte_at(memory, OPTIONS_AT + i)
+    buffer::byte_at(memory, option_place(i))
 }
 
 // The first option byte in which board and card differ, or 16.

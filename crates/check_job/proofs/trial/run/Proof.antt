@@ -1,21 +1,24 @@
 -- `check_job::trial::run` is safe and ends. Assumes nothing.
 use borrow.Author.Needs.{needs}
 use lib.ListN.{length}
-use Prim.Native.Nat.{_≤_}
+use Prim.Native.Nat.{_-_, _≤_}
 use mathlib.Core.Path.{_≡_}
 use Rattle.check_job.proofs.trial.run.Statement.{statement}
 use Rattle.check_job.proofs.trial.run.Tie as tie
 
 abbrev Inv-loop : tie.InvT-loop
-Inv-loop packed events card memory₀ block₀ reply₀ device₀ at₀ left₀ memory block reply device at left =
-    (left ≤ left₀) × (length memory ≡ length memory₀) × (length block ≡ length block₀) × (length reply ≡ length reply₀)
+Inv-loop packed events card memory₀ watch block₀ reply₀ device₀ at₀ count₀ changed₀ seen₀ memory block reply device at count changed seen =
+    (count ≤ events) × (length memory ≡ length memory₀) × (length block ≡ length block₀) × (length reply ≡ length reply₀)
 
 abbrev μ-loop : tie.MeasureT-loop
-μ-loop packed events card memory₀ block₀ reply₀ device₀ at₀ left₀ memory block reply device at left =
-    left
+μ-loop packed events card memory₀ watch block₀ reply₀ device₀ at₀ count₀ changed₀ seen₀ memory block reply device at count changed seen =
+    events - count
 
 equip-requires : tie.Need-equip-requires Inv-loop μ-loop
 equip-requires c κs = search needs
+
+sight-requires : tie.Need-sight-requires Inv-loop μ-loop
+sight-requires c κs = search needs
 
 loop-holds : tie.Need-loop-holds Inv-loop μ-loop
 loop-holds c = search needs
@@ -32,8 +35,14 @@ slice-aggregate-play-2 c = search needs
 play-requires : tie.Need-play-requires Inv-loop μ-loop
 play-requires c κs = search needs
 
-sub-left : tie.Need-sub-left Inv-loop μ-loop
-sub-left c = search needs
+add-count : tie.Need-add-count Inv-loop μ-loop
+add-count c = search needs
+
+sight-requires-2 : tie.Need-sight-requires-2 Inv-loop μ-loop
+sight-requires-2 c κs = search needs
+
+latest-requires : tie.Need-latest-requires Inv-loop μ-loop
+latest-requires c κs = search needs
 
 loop-less : tie.Need-loop-less Inv-loop μ-loop
 loop-less c = search needs
@@ -47,6 +56,12 @@ same-length c = search needs
 returns : tie.Need-returns Inv-loop μ-loop
 returns c = search needs
 
+same-length-2 : tie.Need-same-length-2 Inv-loop μ-loop
+same-length-2 c = search needs
+
+returns-2 : tie.Need-returns-2 Inv-loop μ-loop
+returns-2 c = search needs
+
 pub run-spec : {M : Type 1} → statement M
 run-spec =
     tie.close
@@ -54,13 +69,18 @@ run-spec =
     Inv-loop
     μ-loop
     equip-requires
+    sight-requires
     loop-holds
     end-of-requires
     slice-aggregate-play
     slice-aggregate-play-2
     play-requires
-    sub-left
+    add-count
+    sight-requires-2
+    latest-requires
     loop-less
     loop-again
     same-length
-    returns)
+    returns
+    same-length-2
+    returns-2)
