@@ -150,8 +150,10 @@ def played(events, board):
         device, answer = loader.step(device, event, memory, block, reply)
         text += "%d. %s: %s%s" % (number, words, answer_words(answer), state_words(device))
         text += "".join(differences(before, memory, "; ")) + "\n"
-    text += "%d events%s; pointer 0x%08X" % (len(events), state_words(device), device.pointer)
-    return text + "".join(differences(board, memory, "\n")) + "\nall else is as before\n"
+    counted = "1 event" if len(events) == 1 else "%d events" % len(events)
+    text += "%s%s; pointer 0x%08X" % (counted, state_words(device), device.pointer)
+    changed = "".join(differences(board, memory, "\n"))
+    return text + changed + ("\nall else is as before\n" if changed else "\nnothing differs from before\n")
 
 
 def main(words):

@@ -41,26 +41,41 @@ fn start(packed: &[u8], size: usize, board: &[u8]) {
     play::play(&packed[0..file::least(size, packed.len())], board);
 }
 
-fn main() {
+fn load_and_play() {
     let mut text = [0u8; TEXT_ROOM];
     let mut board = [0u8; BOARD_ROOM];
     let job = file::load(1, b"job.txt", &mut text);
     let memory = file::load(2, b"board.bin", &mut board);
     if !job.readable {
-        refuse::say(
-            Refusal::File,
-            b"The job cannot be read. Put it into job.txt here, or give its path as the first argument.\n",
+        refuse::unreadable(
+            1,
+            b"The job (job.txt in this folder)",
+            b"The job (the first argument)",
+            job.error,
         );
         return;
     }
     if !memory.readable {
-        refuse::say(
-            Refusal::File,
-            b"The board cannot be read. Put it into board.bin here, or give its path as the second argument.\n",
+        refuse::unreadable(
+            2,
+            b"The board (board.bin in this folder)",
+            b"The board (the second argument)",
+            memory.error,
         );
         return;
     }
     let job_bytes = job.count;
     let board_bytes = memory.count;
     perform(&text[0..job_bytes], &board[0..board_bytes]);
+}
+
+fn main() {
+    if file::is_named(3) {
+        refuse::say(
+            Refusal::File,
+            b"Name two files, the job and the board, or none to take job.txt and board.bin in this folder.\n",
+        );
+        return;
+    }
+    load_and_play();
 }

@@ -1,4 +1,5 @@
 // The events of a job, one after the other on one board.
+ghost use mathlib.Core.Path.{_≡_};
 ghost use Prim.Native.Nat.{_≤_, _<_};
 ghost use lib.ListN.{length};
 use crate::change;
@@ -10,7 +11,7 @@ use loader::Event;
 use loader::Stepped;
 use request::Setup;
 
-const TRANSFER: usize = 2048;
+const TRANSFER: usize = Setup::TRANSFER as usize;
 
 // Room for a line in which every part differs.
 const LINE_ROOM: usize = 1200;
@@ -78,11 +79,11 @@ fn turn(
     block: &mut [u8],
     reply: &mut [u8],
 ) -> Device
-    requires { ⌜ 0 < length (now piece) ⌝ }
+    requires { ⌜ (0 < length (now piece)) × (length (now memory) ≡ 18448) ⌝ }
 {
     let mut before = [0u8; change::MEMORY];
     let mut line = [0u8; LINE_ROOM];
-    words::say(memory, &mut before, 0);
+    buffer::put(&mut before, 0, memory);
     let end = announce(device, number, piece, &mut line);
     let stepped = step(device, piece, memory, block, reply);
     let end = event::outcome(stepped, &mut line, end);
@@ -92,25 +93,43 @@ fn turn(
     stepped.device
 }
 
+// How many events there were.
+fn events(number: usize, out: &mut [u8]) -> usize {
+    let end = words::decimal(number, out, 0);
+    if number == 1 {
+        return words::say(b" event", out, end);
+    }
+    words::say(b" events", out, end)
+}
+
+// What does not differ.
+fn rest(some_differs: bool, out: &mut [u8], at: usize) -> usize {
+    if some_differs {
+        return words::say(b"\nall else is as before\n", out, at);
+    }
+    words::say(b"\nnothing differs from before\n", out, at)
+}
+
 // Prints the device and the differences that the whole job made.
 fn conclude(device: Device, number: usize, old: &[u8], new: &[u8]) {
     let mut line = [0u8; LINE_ROOM];
-    let end = words::decimal(number, &mut line, 0);
-    let end = words::say(b" events", &mut line, end);
+    let end = events(number, &mut line);
     let end = event::state(device, &mut line, end);
     let end = words::say(b"; pointer ", &mut line, end);
     let end = words::address(device.pointer, &mut line, end);
-    let end = change::list(old, new, b"\n", &mut line, end);
-    let end = words::say(b"\nall else is as before\n", &mut line, end);
+    let listed = change::list(old, new, b"\n", &mut line, end);
+    let end = rest(listed != end, &mut line, listed);
     write(&line, end);
 }
 
 // Plays packed events on a board that was just attached.
-pub(crate) fn play(packed: &[u8], board: &[u8]) {
+pub(crate) fn play(packed: &[u8], board: &[u8])
+    requires { ⌜ length (now board) ≡ 18448 ⌝ }
+{
     let mut memory = [0u8; change::MEMORY];
     let mut block = [0u8; TRANSFER];
     let mut reply = [0u8; TRANSFER];
-    words::say(board, &mut memory, 0);
+    buffer::put(&mut memory, 0, board);
     let mut device = Device::START;
     let mut number = 0;
     let mut at = 0;

