@@ -4,7 +4,7 @@ use mathlib.Core.Bool.{true, false, true≢false}
 use mathlib.Core.List.{List}
 use Prim.Native.Nat.{ℕ, _+_, _*_, _^_, _<_}
 use native.Mathlib.Omega.{arith}
-use lib.ListN.{getD}
+use lib.ListN.{length, getD}
 use Rattle.laws.proofs.Split.{by-lt, or-false}
 use Rattle.board.specs.Protection.{lockedFrom, wordFrom, writeProtected, anyProtected}
 use Rattle.board.proofs.Protection.{protected-past}
@@ -26,6 +26,6 @@ pub free-page-small : (card : List ℕ) (page : ℕ) → allBytes card ≡ true 
 free-page-small card page bytes e =
     by-lt page 32 (λ h. h) (λ h. absurd (true≢false (sym (protected-past (wordFrom 0 card) page (word-small card bytes) h) ∙ e)))
 
-pub barred-parts : (image card : List ℕ) → barred image card ≡ false → (lockedFrom 0 card ≡ false) × (anyProtected (wordFrom 0 card) (pagesOf image) 0 ≡ false)
+pub barred-parts : (image card : List ℕ) → barred image card ≡ false → (lockedFrom 0 card ≡ false) × (anyProtected (wordFrom 0 card) (pagesOf (length image)) 0 ≡ false)
 unfolding barred
-barred-parts image card e = or-false (lockedFrom 0 card) (anyProtected (wordFrom 0 card) (pagesOf image) 0) e
+barred-parts image card e = or-false (lockedFrom 0 card) (anyProtected (wordFrom 0 card) (pagesOf (length image)) 0) e

@@ -49,7 +49,7 @@ pub page-most : (image : List ℕ) (page : ℕ) → length (pageOf image page) �
 page-most image page = take-at-most pageBytes (drop (page * pageBytes) image)
 
 -- a page below the count has a byte at least
-pub page-some : (image : List ℕ) (page : ℕ) → page < pagesOf image → 1 ≤ length (pageOf image page)
+pub page-some : (image : List ℕ) (page : ℕ) → page < pagesOf (length image) → 1 ≤ length (pageOf image page)
 page-some image page h =
     let l : length (drop (page * pageBytes) image) ≡ length image - page * pageBytes = length-drop (page * pageBytes) image in
     by-lt (length (drop (page * pageBytes) image)) pageBytes

@@ -1,7 +1,7 @@
 -- How long the plan is. Assumes nothing.
 use mathlib.Core.Path.{_≡_, refl, ap, _∙_, sym}
 use mathlib.Core.List.{List}
-use Prim.Native.Nat.{ℕ, zero, suc, _+_, _-_, _*_, _/_, _%_, _≤_, _<_}
+use Prim.Native.Nat.{ℕ, zero, suc, _+_, _-_, _*_, _%_, _≤_, _<_}
 use native.Mathlib.Omega.{arith}
 use lib.ListN.{length, drop, length-append, length-drop}
 use lib.Seq.{take-all, length-take-le}
@@ -19,11 +19,11 @@ unfolding pageLines
 page-count image page n e = rw e (omega arith)
 
 -- the length, in each case
-pub bytes-one : (n : ℕ) → n % pageBytes ≡ 1 → (n + (pageBytes - 1)) / pageBytes * 200 + 110 + (n + 1) * 2 ≡ planBytes n
+pub bytes-one : (n : ℕ) → n % pageBytes ≡ 1 → pagesOf n * 200 + 110 + (n + 1) * 2 ≡ planBytes n
 unfolding planBytes
 bytes-one n h = rw (eq-eqb (n % pageBytes) 1 h) (omega arith)
 
-pub bytes-more : (n : ℕ) → (n % pageBytes ≡ 1 → ⊥) → (n + (pageBytes - 1)) / pageBytes * 200 + 110 + n * 2 ≡ planBytes n
+pub bytes-more : (n : ℕ) → (n % pageBytes ≡ 1 → ⊥) → pagesOf n * 200 + 110 + n * 2 ≡ planBytes n
 unfolding planBytes
 bytes-more n h = rw (ne-eqb (n % pageBytes) 1 h) (omega arith)
 
@@ -43,7 +43,7 @@ bytes-next n =
     (λ e. let a = bytes-one n e in let b = bytes-one (pageBytes + n) (omega arith) in omega arith)
     (λ e. let a = bytes-more n e in let b = bytes-more (pageBytes + n) (omega arith) in omega arith)
 
-rest-length : (image : List ℕ) (count page n : ℕ) → n ≡ length image - page * pageBytes → count ≡ (n + (pageBytes - 1)) / pageBytes → length (restText image count page) ≡ planBytes n
+rest-length : (image : List ℕ) (count page n : ℕ) → n ≡ length image - page * pageBytes → count ≡ pagesOf n → length (restText image count page) ≡ planBytes n
 rest-length image zero page n is c =
     let z : n ≡ 0 = omega arith in
     rw (z, rest-none image page) (leaving-length ∙ sym bytes-none)
@@ -73,11 +73,11 @@ rest-length image (suc count) page n is c =
 pub plan-length : (image : List ℕ) → length (planOf image) ≡ planBytes (length image)
 plan-length image =
     let e : length image ≡ length image - 0 * pageBytes = omega arith in
-    ap length (plan-rest image (pagesOf image) refl) ∙ rest-length image (pagesOf image - 0) 0 (length image) e (omega arith)
+    ap length (plan-rest image (pagesOf (length image)) refl) ∙ rest-length image (pagesOf (length image) - 0) 0 (length image) e (omega arith)
 
 -- the same, as it is counted up
-pub size-one : (image : List ℕ) (count : ℕ) → count ≡ pagesOf image → length image % pageBytes ≡ 1 → count * 200 + 110 + (length image + 1) * 2 ≡ length (planOf image)
+pub size-one : (image : List ℕ) (count : ℕ) → count ≡ pagesOf (length image) → length image % pageBytes ≡ 1 → count * 200 + 110 + (length image + 1) * 2 ≡ length (planOf image)
 size-one image count is h = ap (λ (k : ℕ). k * 200 + 110 + (length image + 1) * 2) is ∙ bytes-one (length image) h ∙ sym (plan-length image)
 
-pub size-more : (image : List ℕ) (count : ℕ) → count ≡ pagesOf image → (length image % pageBytes ≡ 1 → ⊥) → count * 200 + 110 + length image * 2 ≡ length (planOf image)
+pub size-more : (image : List ℕ) (count : ℕ) → count ≡ pagesOf (length image) → (length image % pageBytes ≡ 1 → ⊥) → count * 200 + 110 + length image * 2 ≡ length (planOf image)
 size-more image count is h = ap (λ (k : ℕ). k * 200 + 110 + length image * 2) is ∙ bytes-more (length image) h ∙ sym (plan-length image)

@@ -16,14 +16,14 @@ use Rattle.plan.specs.Parts.{polledText, pageText, restText, leavingText
 use Rattle.plan.proofs.Lines.{polled-behind, page-length, leaving-length}
 
 -- the plan is what is to be written at the start
-pub plan-rest : (image : List ℕ) (count : ℕ) → count ≡ pagesOf image → planOf image ≡ restText image (count - 0) 0
+pub plan-rest : (image : List ℕ) (count : ℕ) → count ≡ pagesOf (length image) → planOf image ≡ restText image (count - 0) 0
 unfolding planOf planEvents restText
-plan-rest image count is = let e : pagesOf image ≡ count - 0 = omega arith in ap (λ (n : ℕ). textOf (pagesFrom image n 0)) e
+plan-rest image count is = let e : pagesOf (length image) ≡ count - 0 = omega arith in ap (λ (n : ℕ). textOf (pagesFrom image n 0)) e
 
-pub plan-start : (image out : List ℕ) (count : ℕ) → count ≡ pagesOf image → sets out 0 (restText image (count - 0) 0) ≡ sets out 0 (planOf image)
+pub plan-start : (image out : List ℕ) (count : ℕ) → count ≡ pagesOf (length image) → sets out 0 (restText image (count - 0) 0) ≡ sets out 0 (planOf image)
 plan-start image out count is = ap (sets out 0) (sym (plan-rest image count is))
 
-pub plan-total : (image : List ℕ) (count : ℕ) → count ≡ pagesOf image → 0 + length (restText image (count - 0) 0) ≡ length (planOf image)
+pub plan-total : (image : List ℕ) (count : ℕ) → count ≡ pagesOf (length image) → 0 + length (restText image (count - 0) 0) ≡ length (planOf image)
 plan-total image count is = let e = ap length (plan-rest image count is) in omega arith
 
 pub rest-page : (image : List ℕ) (count page : ℕ) → restText image (suc count) page ≡ pageText image page ++ restText image count (suc page)

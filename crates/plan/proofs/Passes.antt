@@ -42,7 +42,7 @@ leaving-over n mode p w k some heard free =
 -- a run that ends with the image in place
 record Arrives (n : ℕ) (image card : List ℕ) (over : Over) : Type 0 where
   work : List ℕ
-  placed : Placed n image card (pagesOf image) work
+  placed : Placed n image card (pagesOf (length image)) work
   ends : over ≡ ended (resting Left flashFirst) work
 
 arrives-from : (n : ℕ) (image card : List ℕ) (over next : Over) → over ≡ next → Arrives n image card next → Arrives n image card over
@@ -50,16 +50,16 @@ arrives-from n image card over next e r = record { work = r .work; placed = r .p
 
 -- the rest of a plan, from `page` on
 module _ (n : ℕ) (image card : List ℕ) (some : 1 ≤ n) (bytes : allBytes card ≡ true) (unlocked : lockedFrom 0 card ≡ false) (within : length image ≤ flashBytes n) where
-  pages-over : (count page : ℕ) (mode : Mode) (p : ℕ) (w : List ℕ) (k : ℕ) → isMode 0 mode ≡ false → allowedOf Download mode ≡ true → page + count ≡ pagesOf image → anyProtected (wordFrom 0 card) count page ≡ false → Placed n image card page w → Arrives n image card (overOf n (pagesFrom image count page) (resting mode p) w k)
+  pages-over : (count page : ℕ) (mode : Mode) (p : ℕ) (w : List ℕ) (k : ℕ) → isMode 0 mode ≡ false → allowedOf Download mode ≡ true → page + count ≡ pagesOf (length image) → anyProtected (wordFrom 0 card) count page ≡ false → Placed n image card page w → Arrives n image card (overOf n (pagesFrom image count page) (resting mode p) w k)
   unfolding pagesFrom
   pages-over zero page mode p w k heard free all unbarred placed =
-      let e : page ≡ pagesOf image = omega arith in
+      let e : page ≡ pagesOf (length image) = omega arith in
       record { work = w; placed = rw e at placed; ends = leaving-over n mode p w k some heard free }
   pages-over (suc count) page mode p w k heard free all unbarred placed =
       let word : ℕ = wordFrom 0 card in
       let xs : List ℕ = padded (pageOf image page) in
       let parts = none-parts word count page unbarred in
-      let below : page < pagesOf image = omega arith in
+      let below : page < pagesOf (length image) = omega arith in
       let inside : page < n = omega arith in
       let few : page < 32 = free-page-small card page bytes (parts .0) in
       let short : pageAddress page < 0x100000000 = omega arith in
@@ -71,13 +71,13 @@ module _ (n : ℕ) (image card : List ℕ) (some : 1 ≤ n) (bytes : allBytes ca
       (pages-over count (suc page) DownloadIdle (pageAddress page) (pageWritten n word page xs w) (suc (suc (suc (suc (suc (suc (suc (suc (suc k))))))))) refl idle-free (omega arith) (parts .1) (placed-on n page image card w (pageWritten n word page xs w) inside learns placed))
 
 -- the image in place is what the verdict asks for
-module _ (n : ℕ) (image card w : List ℕ) (lc : length card ≡ optionBytes) (placed : Placed n image card (pagesOf image) w) where
+module _ (n : ℕ) (image card w : List ℕ) (lc : length card ≡ optionBytes) (placed : Placed n image card (pagesOf (length image)) w) where
   none-suspect : (f : ℕ) → f < flashBytes n → suspect n image w f ≡ false
   unfolding suspect
   none-suspect f h =
       by-lt f (length image)
       (λ a.
-      let b : f < pagesOf image * pageBytes = omega arith in
+      let b : f < pagesOf (length image) * pageBytes = omega arith in
       rw (lt-ltb f (length image) a, placed .knows f b, eq-eqb (getD w f 0) (getD image f 0) (placed .values f b ∙ default-same image f 0xFF 0 a)))
       (λ a.
       by-lt f (pagesEnd image)
@@ -104,6 +104,6 @@ pub plan-verdict : (n : ℕ) (image card w : List ℕ) → 1 ≤ n → length w 
 unfolding verdictOf planEvents
 plan-verdict n image card w some lw li lc bytes unbarred =
     let parts = barred-parts image card unbarred in
-    let all : 0 + pagesOf image ≡ pagesOf image = omega arith in
-    let run = pages-over n image card some bytes (parts .0) li (pagesOf image) 0 Idle flashFirst (begun n card w) 0 refl start-free all (parts .1) (begun-placed n image card w lw lc bytes) in
+    let all : 0 + pagesOf (length image) ≡ pagesOf (length image) = omega arith in
+    let run = pages-over n image card some bytes (parts .0) li (pagesOf (length image)) 0 Idle flashFirst (begun n card w) 0 refl start-free all (parts .1) (begun-placed n image card w lw lc bytes) in
     ap (overVerdict n image card) (run .ends) ∙ placed-passes n image card (run .work) lc (run .placed)

@@ -60,7 +60,7 @@ pages-fit image (suc count) page =
 
 pub plan-fits : (image : List ℕ) → AllFit (planEvents image)
 unfolding planEvents
-plan-fits image = pages-fit image (pagesOf image) 0
+plan-fits image = pages-fit image (pagesOf (length image)) 0
 
 -- the bytes of a number are bytes
 byte-is : (x : ℕ) → ltb (x % 256) 256 ≡ true
@@ -110,4 +110,4 @@ pages-proper image (suc count) page y =
 
 pub plan-proper : (image : List ℕ) → allBytes image ≡ true → proper (planEvents image) ≡ true
 unfolding planEvents
-plan-proper image y = pages-proper image (pagesOf image) 0 y
+plan-proper image y = pages-proper image (pagesOf (length image)) 0 y

@@ -3,6 +3,7 @@ use mathlib.Core.Path.{_≡_}
 use mathlib.Core.Bool.{Bool, true, false}
 use mathlib.Core.List.{List}
 use Prim.Native.Nat.{ℕ}
+use lib.ListN.{length}
 use Rattle.board.specs.Protection.{lockedFrom, wordFrom, anyProtected}
 use Rattle.verdict.specs.Verdict.{pagesOf}
 use Rattle.plan.specs.Plan.{barred}
@@ -11,6 +12,6 @@ pub barred-locked : (image card : List ℕ) → lockedFrom 0 card ≡ true → t
 unfolding barred
 barred-locked image card h = rw h
 
-pub barred-pages : (image card : List ℕ) (word count : ℕ) (r : Bool) → lockedFrom 0 card ≡ false → word ≡ wordFrom 0 card → count ≡ pagesOf image → r ≡ anyProtected word count 0 → r ≡ barred image card
+pub barred-pages : (image card : List ℕ) (word count : ℕ) (r : Bool) → lockedFrom 0 card ≡ false → word ≡ wordFrom 0 card → count ≡ pagesOf (length image) → r ≡ anyProtected word count 0 → r ≡ barred image card
 unfolding barred
 barred-pages image card word count r h w c e = rw (h, ← w, ← c) e

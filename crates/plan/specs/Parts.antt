@@ -2,12 +2,13 @@
 use mathlib.Core.Bool.{cond}
 use mathlib.Core.List.{List, [], _++_}
 use mathlib.Core.Path.{_≡_}
-use Prim.Native.Nat.{ℕ, _+_, _-_, _*_, _/_, _%_}
+use Prim.Native.Nat.{ℕ, _+_, _*_, _%_}
 use lib.Dec.{eqb}
 use lib.ListN.{length}
 use lib.Seq.{sets}
 use Rattle.board.specs.Layout.{pageBytes, flashBytes}
 use Rattle.job.specs.Event.{Event, textOf}
+use Rattle.verdict.specs.Verdict.{pagesOf}
 use Rattle.plan.specs.Plan.{download, polled, pageAddress, erasePage, setPointer, padded, pageOf, leaving, pagesFrom}
 
 -- the lines of an event and of the two GETSTATUS that follow it
@@ -57,4 +58,4 @@ mostBytes = flashBytes 255
 
 -- how long the plan of an image of n bytes is: 200 for the lines of a page without the digits of its bytes, two digits a byte, and the end
 unfoldable pub planBytes : ℕ → ℕ
-planBytes n = (n + (pageBytes - 1)) / pageBytes * 200 + (n + cond (eqb (n % pageBytes) 1) 1 0) * 2 + leavingBytes
+planBytes n = pagesOf n * 200 + (n + cond (eqb (n % pageBytes) 1) 1 0) * 2 + leavingBytes

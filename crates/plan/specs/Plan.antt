@@ -63,7 +63,7 @@ pagesFrom image (suc count) page =
 
 -- the events of the plan: all pages of the image, then what comes behind them
 unfoldable pub planEvents : List ℕ → List Event
-planEvents image = pagesFrom image (pagesOf image) 0
+planEvents image = pagesFrom image (pagesOf (length image)) 0
 
 -- the plan
 unfoldable pub planOf : List ℕ → List ℕ
@@ -71,7 +71,7 @@ planOf image = textOf (planEvents image)
 
 -- row 12: "card read-protected, or an image page write-protected"
 unfoldable pub barred : List ℕ → List ℕ → Bool
-barred image card = lockedFrom 0 card || anyProtected (wordFrom 0 card) (pagesOf image) 0
+barred image card = lockedFrom 0 card || anyProtected (wordFrom 0 card) (pagesOf (length image)) 0
 
 -- rows 7, 8 and 12, "checked in this order"
 unfoldable pub planable : ℕ → List ℕ → List ℕ → Admission

@@ -38,13 +38,13 @@ endFails d kept c =
 unfoldable pub endFault : ℕ → List ℕ → ℕ → World → Bool
 endFault n card c w = endFails (w .device) (same (drop (optionsFrom n) (w .memory)) card) c
 
--- how many pages the image takes, the last perhaps in part; the one place that rounds
-abbrev pub pagesOf : List ℕ → ℕ
-pagesOf image = (length image + (pageBytes - 1)) / pageBytes
+-- how many pages so many bytes take, the last perhaps in part; the one place that rounds
+abbrev pub pagesOf : ℕ → ℕ
+pagesOf count = (count + (pageBytes - 1)) / pageBytes
 
 -- where the image's last page ends
 abbrev pub pagesEnd : List ℕ → ℕ
-pagesEnd image = pagesOf image * pageBytes
+pagesEnd image = pagesOf (length image) * pageBytes
 
 -- "the image in place, the rest of its last page erased, and every other flash page .. as before": the byte wanted at offset f of a board that began as w
 abbrev pub wantedAt : List ℕ → World → ℕ → ℕ

@@ -47,7 +47,7 @@ pub fn supplied(board: Board, image: usize, card: usize) -> Admission
 
 // How many pages an image takes.
 pub fn pages_of(image: &[u8]) -> usize
-    ensures { λ r. ⌜ r ≡ pagesOf (now (image .entry)) ⌝ }
+    ensures { λ r. ⌜ r ≡ pagesOf (length (now (image .entry))) ⌝ }
 {
     (image.len() + (Board::PAGE - 1)) / Board::PAGE
 }
