@@ -18,7 +18,7 @@ use Rattle.job.specs.declared.Done.the-variants.{Bytes, Refused}
 use Rattle.job.specs.Event.{textOf, packedOf}
 use Rattle.job.specs.Text.{limit, firstBad, eventsOf}
 use Rattle.job.specs.Packed.{capped, packs, unpacked}
-use Rattle.job.specs.Calls.{told, Outcome, left, delivered, measureOf, readOf, sizeOf, writeOf}
+use Rattle.job.specs.Calls.{told, Outcome, left, delivered, measureOf, reads, readOf, sizeOf, writeOf}
 use Rattle.job.proofs.SpellSize.{capped-is, capped-long}
 
 first : List ℕ → ℕ
@@ -52,16 +52,16 @@ delivered-room xs out h = rw (le-leb (length xs) (length out) h)
 
 -- the reader in each case
 module _ (t out : List ℕ) where
-  read-long : limit < length t → readOf t out ≡ left (Refused Text) out
-  unfolding readOf
+  pub read-long : limit < length t → readOf t out ≡ left (Refused Text) out
+  unfolding measureOf readOf
   read-long h = rw (lt-ltb limit (length t) h)
 
   pub read-bad : length t ≤ limit → (firstBad t ≡ 0 → ⊥) → readOf t out ≡ left (Refused (Line (firstBad t))) out
-  unfolding readOf
+  unfolding measureOf readOf
   read-bad h n = rw (le-ltb limit (length t) h, ne-eqb (firstBad t) 0 n)
 
   pub read-good : length t ≤ limit → firstBad t ≡ 0 → readOf t out ≡ delivered (packedOf (eventsOf t)) out
-  unfolding readOf
+  unfolding measureOf readOf
   read-good h e = rw (le-ltb limit (length t) h, eq-eqb (firstBad t) 0 e)
 
   -- an answer of n bytes is that of a text that is short enough, and has no malformed line
@@ -84,19 +84,8 @@ module _ (t out : List ℕ) (r : Done) (is : told r ≡ told (measureOf t)) wher
   measured = told-injective r (measureOf t) is
 
   pub read-refused : (why : Refusal) → r ≡ Refused why → left (Refused why) out ≡ readOf t out
-  unfolding measureOf
-  read-refused why e =
-      let m : Refused why ≡ measureOf t = sym e ∙ measured in
-      by-lt limit (length t)
-      (λ h.
-      let k : Refused why ≡ Refused Text = rw (lt-ltb limit (length t) h) at m in
-      ap (λ (d : Done). left d out) k ∙ sym (read-long t out h))
-      (λ h.
-      by-eq (firstBad t) 0
-      (λ g. let k : Refused why ≡ Bytes (length (packedOf (eventsOf t))) = rw (le-ltb limit (length t) h, eq-eqb (firstBad t) 0 g) at m in let z : _≡_ {A = ℕ} 0 1 = cc in absurd (omega arith))
-      (λ g.
-      let k : Refused why ≡ Refused (Line (firstBad t)) = rw (le-ltb limit (length t) h, ne-eqb (firstBad t) 0 g) at m in
-      ap (λ (d : Done). left d out) k ∙ sym (read-bad t out h g)))
+  unfolding readOf
+  read-refused why e = ap (λ (d : Done). reads d t out) (sym e ∙ measured)
 
   -- an answer of n bytes is that of a text that is short enough, and has no malformed line
   module _ (n : ℕ) (e : r ≡ Bytes n) where
@@ -130,11 +119,11 @@ module _ (t out : List ℕ) (r : Done) (is : told r ≡ told (measureOf t)) wher
 
 -- the writer in each case
 module _ (p out : List ℕ) where
-  write-broken : packs p ≡ false → writeOf p out ≡ left (Refused Request) out
+  pub write-broken : packs p ≡ false → writeOf p out ≡ left (Refused Request) out
   unfolding writeOf
   write-broken h = rw h
 
-  write-long : packs p ≡ true → limit < length (textOf (unpacked p)) → writeOf p out ≡ left (Refused Text) out
+  pub write-long : packs p ≡ true → limit < length (textOf (unpacked p)) → writeOf p out ≡ left (Refused Text) out
   unfolding writeOf
   write-long h l = rw (h, lt-ltb limit (length (textOf (unpacked p))) l)
 

@@ -40,11 +40,14 @@ measureOf t =
     cond (ltb limit (length t)) (Refused Text)
     (cond (eqb (firstBad t) 0) (Bytes (length (packedOf (eventsOf t)))) (Refused (Line (firstBad t))))
 
--- the reader: rows 9, 10, 11; "A refusal leaves state and every buffer unchanged"
+-- by what `measure` answers for the text; "A refusal leaves state and every buffer unchanged"
+abbrev pub reads : Done → List ℕ → List ℕ → Outcome
+reads (Bytes size) t out = delivered (packedOf (eventsOf t)) out
+reads (Refused r) t out = left (Refused r) out
+
+-- the reader: rows 9, 10, 11
 unfoldable pub readOf : List ℕ → List ℕ → Outcome
-readOf t out =
-    cond (ltb limit (length t)) (left (Refused Text) out)
-    (cond (eqb (firstBad t) 0) (delivered (packedOf (eventsOf t)) out) (left (Refused (Line (firstBad t))) out))
+readOf t out = reads (measureOf t) t out
 
 -- 5, and how long the text of a packed list is
 unfoldable pub sizeOf : List ℕ → Done
