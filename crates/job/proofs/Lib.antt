@@ -15,4 +15,5 @@ pub mod SpellLine
 pub mod SpellLoop
 pub mod WalkEvents
 pub mod Answers
+pub mod Order
 pub mod Theorems

@@ -1,11 +1,12 @@
 -- What demands 1 and 2 say of a step, for a reader who takes `stepOf` from specs/ as what document 01 says. Assumes nothing.
-use mathlib.Core.Path.{_≡_, _∙_, sym}
-use mathlib.Core.Bool.{true, false}
+use mathlib.Core.Path.{_≡_, ap, _∙_, sym}
+use mathlib.Core.Bool.{true}
 use mathlib.Core.List.{List}
-use Prim.Native.Nat.{ℕ, _≤_, _<_}
+use Prim.Native.Nat.{ℕ, _≤_}
 use Rattle.board.specs.Layout.{loggerPages}
 use Rattle.refusal.specs.declared.Refusal.{Refusal}
 use Rattle.refusal.specs.Refusal.{numberOf}
+use Rattle.refusal.proofs.Order.{Applies, First, first-none, first-first}
 use Rattle.device.specs.declared.Device.{Device}
 use Rattle.device.specs.WellFormed.{wellFormed}
 use Rattle.device.proofs.Form.{form-of, well-formed}
@@ -14,10 +15,10 @@ use Rattle.loader.specs.declared.Stepped.{Stepped}
 use Rattle.loader.specs.declared.Answer.the-variants as answer
 use Rattle.loader.specs.declared.Admission.the-variants as admission
 use Rattle.loader.specs.Answer.{outcome, left}
-use Rattle.loader.specs.Faults.{faultOf}
+use Rattle.loader.specs.Faults.{faultsOf}
 use Rattle.loader.specs.Step.{sizesOf, admittedOf, stepOf}
 use Rattle.loader.proofs.Outcomes.{left-stepped, left-memory, left-block, left-reply}
-use Rattle.loader.proofs.Order.{First, admitted-refuses}
+use Rattle.loader.proofs.Order.{refusedBy, admitted-order}
 use Rattle.loader.proofs.Form.{step-form}
 
 -- what the promise of `step` allows, for one call
@@ -37,12 +38,12 @@ module _ (n : ℕ) (d : Device) (e : Event) (q m b y : List ℕ) where
   refused-changes-nothing r a = rw a
 
   -- a refusal is the first row that applies
-  pub refused-first : (r : Refusal) → admittedOf n d e q (sizesOf m b y) ≡ admission.Refused r → First (faultOf n d e q (sizesOf m b y)) (numberOf r)
-  refused-first r a = rw a at (admitted-refuses n d q (sizesOf m b y) e)
+  pub refused-first : (r : Refusal) → admittedOf n d e q (sizesOf m b y) ≡ admission.Refused r → First (faultsOf n d e q (sizesOf m b y)) (numberOf r)
+  refused-first r a = first-first (faultsOf n d e q (sizesOf m b y)) r (sym (admitted-order n d e q (sizesOf m b y)) ∙ ap refusedBy a)
 
   -- where no refusal is given, no row applies
-  pub admitted-faultless : admittedOf n d e q (sizesOf m b y) ≡ admission.Admitted → (k : ℕ) → k < 6 → faultOf n d e q (sizesOf m b y) k ≡ false
-  admitted-faultless a = rw a at (admitted-refuses n d q (sizesOf m b y) e)
+  pub admitted-faultless : admittedOf n d e q (sizesOf m b y) ≡ admission.Admitted → (k : ℕ) → Applies (faultsOf n d e q (sizesOf m b y)) k → ⊥
+  admitted-faultless a = first-none (faultsOf n d e q (sizesOf m b y)) (sym (admitted-order n d e q (sizesOf m b y)) ∙ ap refusedBy a)
 
   -- a well-formed state stays well formed, so that no run of events ends in refusal 4
   pub step-keeps-form : 1 ≤ n → wellFormed n d ≡ true → wellFormed n (stepOf n d e q m b y .device) ≡ true

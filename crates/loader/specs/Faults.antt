@@ -1,9 +1,11 @@
--- When a step is refused, by the number of the refusal. Document 01, "Refusal numbers", column "When" of the rows that name step. Assumes nothing.
-use mathlib.Core.Bool.{Bool, false, cond, not}
-use mathlib.Core.List.{List}
+-- The refusals of a step, each with whether it applies. Document 01, "Refusal numbers", column "When" of the rows that name step. Assumes nothing.
+use mathlib.Core.Bool.{Bool, false, not}
+use mathlib.Core.List.{List, [], _∷_}
 use Prim.Native.Nat.{ℕ}
 use lib.Dec.{eqb}
 use Rattle.board.specs.Layout.{memoryBytes}
+use Rattle.refusal.specs.declared.Refusal.{Refusal}
+use Rattle.refusal.specs.declared.Refusal.the-variants as refusal
 use Rattle.request.specs.Request.{transferBytes}
 use Rattle.request.specs.Setup.{fitsOf}
 use Rattle.device.specs.declared.Device.{Device}
@@ -17,12 +19,12 @@ abbrev pub misfits : Event → List ℕ → Bool
 misfits Attach q = false
 misfits Request q = not (fitsOf q)
 
--- row k applies
-unfoldable pub faultOf : ℕ → Device → Event → List ℕ → Sizes → ℕ → Bool
-faultOf n d e q s k =
-    cond (eqb k 1) (not (eqb (s .memory) (memoryBytes n)))
-    (cond (eqb k 2) (not (eqb (s .block) transferBytes))
-    (cond (eqb k 3) (not (eqb (s .reply) transferBytes))
-    (cond (eqb k 4) (not (wellFormed n d))
-    (cond (eqb k 5) (misfits e q)
-    false))))
+-- rows 1 to 5
+abbrev pub faultsOf : ℕ → Device → Event → List ℕ → Sizes → List (Refusal × Bool)
+faultsOf n d e q s =
+    (refusal.Memory, not (eqb (s .memory) (memoryBytes n)))
+    ∷ (refusal.Block, not (eqb (s .block) transferBytes))
+    ∷ (refusal.Reply, not (eqb (s .reply) transferBytes))
+    ∷ (refusal.State, not (wellFormed n d))
+    ∷ (refusal.Request, misfits e q)
+    ∷ []

@@ -15,4 +15,5 @@ pub mod Passes
 pub mod Proper
 pub mod Admitted
 pub mod Call
+pub mod Order
 pub mod Theorems

@@ -1,7 +1,5 @@
 -- Refusals. Document 01, "Refusal numbers". Assumes nothing.
-use mathlib.Core.Bool.{cond}
 use Prim.Native.Nat.{ℕ}
-use lib.Dec.{eqb}
 use Rattle.refusal.specs.declared.Refusal.{Refusal}
 use Rattle.refusal.specs.declared.Refusal.the-variants.{Memory, Block, Reply, State, Request, Work, Image, Card, Text, Line, Output, Protected, File}
 
@@ -36,7 +34,3 @@ lineOf (Line k) = k
 lineOf Output = 0
 lineOf Protected = 0
 lineOf File = 0
-
--- "Refusal numbers", the sentence over the table: in the order of the numbers, but 13 first and 11 last
-abbrev pub placeOf : Refusal → ℕ
-placeOf r = cond (eqb (numberOf r) 13) 0 (cond (eqb (numberOf r) 11) 14 (numberOf r))

@@ -2,4 +2,5 @@ pub mod Supply
 pub mod Decimal
 pub mod Line
 pub mod Reading
+pub mod Order
 pub mod Theorems
