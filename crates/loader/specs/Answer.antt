@@ -7,12 +7,22 @@ use Rattle.loader.specs.declared.Answer.{Answer}
 use Rattle.loader.specs.declared.Answer.the-variants.{Accepted, Reply, Stall, Silent, Refused}
 use Rattle.loader.specs.declared.Stepped.{Stepped}
 
+-- the first number of a Reply, of a Stall and of Silent
+abbrev pub replyTold : ℕ
+replyTold = 1
+
+abbrev pub stallTold : ℕ
+stallTold = 2
+
+abbrev pub silentTold : ℕ
+silentTold = 3
+
 -- "Accepted, a Reply of some bytes, or a Stall", "Silent": a number for each, then its values; a refusal's are its own number and its line
 abbrev pub told : Answer → List ℕ
 told Accepted = 0 ∷ []
-told (Reply count) = 1 ∷ count ∷ []
-told Stall = 2 ∷ []
-told Silent = 3 ∷ []
+told (Reply count) = replyTold ∷ count ∷ []
+told Stall = stallTold ∷ []
+told Silent = silentTold ∷ []
 told (Refused refusal) = 4 ∷ numberOf refusal ∷ lineOf refusal ∷ []
 
 -- the answer, the next state, and the three buffers

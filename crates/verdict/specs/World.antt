@@ -13,7 +13,7 @@ use Rattle.request.specs.Setup.{setupOf}
 use Rattle.device.specs.declared.Device.{Device}
 use Rattle.device.specs.State.{started}
 use Rattle.loader.specs.declared.Event.the-variants as event
-use Rattle.loader.specs.Answer.{Outcome}
+use Rattle.loader.specs.Answer.{replyTold, stallTold, silentTold, Outcome}
 use Rattle.loader.specs.Step.{stepOf}
 use Rattle.hex.specs.Hex.{allBytes}
 use Rattle.job.specs.Event.{Event, attach, request}
@@ -63,11 +63,11 @@ abbrev pub asksStatus : Event → Bool
 asksStatus attach = false
 asksStatus (request q) = isGetStatus (requestOf (setupOf q))
 
--- "a Stall, Silent or a GETSTATUS reply with nonzero status"; the answer's first number is 1 for a Reply, 2 for a Stall, 3 for Silent
+-- "a Stall, Silent or a GETSTATUS reply with nonzero status"
 unfoldable pub fails : Event → Outcome → Bool
 fails e o =
-    (eqb (getD (o .answer) 0 0) 2 || eqb (getD (o .answer) 0 0) 3)
-    || (asksStatus e && (eqb (getD (o .answer) 0 0) 1 && not (eqb (getD (o .reply) 0 0) 0)))
+    (eqb (getD (o .answer) 0 0) stallTold || eqb (getD (o .answer) 0 0) silentTold)
+    || (asksStatus e && (eqb (getD (o .answer) 0 0) replyTold && not (eqb (getD (o .reply) 0 0) 0)))
 
 -- event k, here counted from 0, fails on the board
 unfoldable pub failsAt : ℕ → List Event → ℕ → World → Bool
