@@ -71,17 +71,19 @@ fn restore(is_protected: bool) {
     say::text(b" Take it out of the job, or write the card's bytes back before the job leaves.");
 }
 
-// The options are not those of the card any more.
-pub(crate) fn altered(memory: &[u8], packed: &[u8], card: &[u8]) {
+// The options are not those of the card any more; `memory` is as after the job.
+pub(crate) fn altered(packed: &[u8], card: &[u8], memory: &mut [u8]) {
     let i = trial::first_changed(memory, card);
+    let byte = trial::option(memory, i);
+    let place = trial::option_place(i);
     trace::tell(
         b"Line ",
-        trace::last(packed, packed.len(), card, trial::option_place(i)),
+        trace::last(packed, packed.len(), card, place, memory),
     );
     say::text(b", and option byte ");
     say::number(i);
     say::text(b" is ");
-    say::byte(trial::option(memory, i));
+    say::byte(byte);
     say::text(b" then and not ");
     say::byte(buffer::byte_at(card, i));
     say::text(b" as on the card.");

@@ -20,36 +20,33 @@ fn passed(image: usize) {
 }
 
 // The event that fails, and the board before it.
-fn failed(number: usize, packed: &[u8], card: &[u8]) {
-    let mut memory = [0u8; trial::MEMORY];
+fn failed(number: usize, packed: &[u8], card: &[u8], memory: &mut [u8]) {
     if number == 0 {
         return;
     }
-    let scene = trial::run(packed, number - 1, card, &mut memory, Watch::Leaving);
+    let scene = trial::run(packed, number - 1, card, memory, Watch::Leaving);
     let at = scene.at;
     if at < packed.len() {
-        event::explain(scene, number, &packed[at + 1..], &memory);
+        event::explain(scene, number, &packed[at + 1..], memory);
     }
 }
 
-fn ended(condition: u8, packed: &[u8], card: &[u8]) {
-    let mut memory = [0u8; trial::MEMORY];
-    let scene = trial::run(packed, packed.len(), card, &mut memory, Watch::Pointer);
+fn ended(condition: u8, packed: &[u8], card: &[u8], memory: &mut [u8]) {
+    let scene = trial::run(packed, packed.len(), card, memory, Watch::Pointer);
     match condition {
         1 => ends::stayed(scene),
         2 => ends::astray(
             scene,
-            trace::line(packed, packed.len(), card, Watch::Leaving),
+            trace::line(packed, packed.len(), card, Watch::Leaving, memory),
         ),
-        _ => ends::altered(&memory, packed, card),
+        _ => ends::altered(packed, card, memory),
     }
 }
 
 // A flash byte after the job, on a board whose flash and RAM were all `old`.
-fn byte_after(offset: usize, packed: &[u8], card: &[u8], old: u8) -> u8 {
-    let mut memory = [old; trial::MEMORY];
-    trial::run(packed, packed.len(), card, &mut memory, Watch::Pointer);
-    buffer::byte_at(&memory, offset)
+fn byte_after(offset: usize, packed: &[u8], card: &[u8], old: u8, memory: &mut [u8]) -> u8 {
+    trial::outlive(packed, card, old, memory);
+    buffer::byte_at(memory, offset)
 }
 
 // The byte that belongs into flash at an offset, in the pages of the image.
@@ -60,21 +57,22 @@ fn wanted(offset: usize, image: &[u8]) -> u8 {
     0xFF
 }
 
-fn differs(offset: usize, packed: &[u8], image: &[u8], card: &[u8]) {
+fn differs(offset: usize, packed: &[u8], image: &[u8], card: &[u8], memory: &mut [u8]) {
     let found = Found {
-        zero: byte_after(offset, packed, card, 0),
-        erased: byte_after(offset, packed, card, 0xFF),
+        zero: byte_after(offset, packed, card, 0, memory),
+        erased: byte_after(offset, packed, card, 0xFF, memory),
         want: wanted(offset, image),
     };
-    flash::explain(offset, image.len(), found, packed, card);
+    flash::explain(offset, image.len(), found, packed, card, memory);
 }
 
-// A rejected job, packed.
+// A rejected job, packed. Every board that lives through it has the same room for its memory.
 fn rejected(verdict: Verdict, packed: &[u8], image: &[u8], card: &[u8]) {
+    let mut memory = [0u8; trial::MEMORY];
     match verdict {
-        Verdict::Event(number) => failed(number, packed, card),
-        Verdict::End(condition) => ended(condition, packed, card),
-        Verdict::Flash(offset) => differs(offset, packed, image, card),
+        Verdict::Event(number) => failed(number, packed, card, &mut memory),
+        Verdict::End(condition) => ended(condition, packed, card, &mut memory),
+        Verdict::Flash(offset) => differs(offset, packed, image, card, &mut memory),
         _ => {}
     }
 }

@@ -80,10 +80,13 @@ fn wrong(found: Found, trace: Trace) {
 }
 
 // A byte in a page of the image.
-fn wanted(offset: usize, found: Found, packed: &[u8], card: &[u8]) {
+fn wanted(offset: usize, found: Found, packed: &[u8], card: &[u8], memory: &mut [u8]) {
     let page = offset / Board::PAGE;
     if found.zero == found.erased {
-        wrong(found, trace::last(packed, packed.len(), card, offset));
+        wrong(
+            found,
+            trace::last(packed, packed.len(), card, offset, memory),
+        );
         return;
     }
     if board::write_protected(board::word(card, 0), page) {
@@ -93,7 +96,7 @@ fn wanted(offset: usize, found: Found, packed: &[u8], card: &[u8]) {
     let place = trial::option_place(option_of(page));
     untouched(
         offset,
-        trace::line(packed, packed.len(), card, Watch::Byte(place)),
+        trace::line(packed, packed.len(), card, Watch::Byte(place), memory),
     );
 }
 
@@ -111,22 +114,22 @@ fn spare(pending: Pending) {
 }
 
 // What erased a byte, where this trace is of the last line that changed it: that line, or the last change before a write.
-fn eraser(trace: Trace, offset: usize, packed: &[u8], card: &[u8]) -> Trace {
+fn eraser(trace: Trace, offset: usize, packed: &[u8], card: &[u8], memory: &mut [u8]) -> Trace {
     let device = trace.device;
     let pending = device.pending;
     if trace.line == 0 {
         return trace;
     }
     match pending {
-        Pending::Write { .. } => trace::last(packed, trace.line - 1, card, offset),
+        Pending::Write { .. } => trace::last(packed, trace.line - 1, card, offset, memory),
         _ => trace,
     }
 }
 
 // A byte in a page that the image does not reach.
-fn foreign(offset: usize, packed: &[u8], card: &[u8]) {
-    let last = trace::last(packed, packed.len(), card, offset);
-    let erased = eraser(last, offset, packed, card);
+fn foreign(offset: usize, packed: &[u8], card: &[u8], memory: &mut [u8]) {
+    let last = trace::last(packed, packed.len(), card, offset, memory);
+    let erased = eraser(last, offset, packed, card, memory);
     let device = erased.device;
     let pending = device.pending;
     trace::tell(
@@ -145,18 +148,25 @@ fn is_rest(offset: usize, size: usize) -> bool {
 }
 
 // `size` is the image's.
-pub(crate) fn explain(offset: usize, size: usize, found: Found, packed: &[u8], card: &[u8]) {
+pub(crate) fn explain(
+    offset: usize,
+    size: usize,
+    found: Found,
+    packed: &[u8],
+    card: &[u8],
+    memory: &mut [u8],
+) {
     say::text(b"The byte at ");
     place::flash(offset);
     if offset < size {
         say::text(b" belongs to the image");
-        wanted(offset, found, packed, card);
+        wanted(offset, found, packed, card, memory);
         return;
     }
     if is_rest(offset, size) {
         say::text(b" lies behind the image in its last page and has to be erased");
-        wanted(offset, found, packed, card);
+        wanted(offset, found, packed, card, memory);
         return;
     }
-    foreign(offset, packed, card);
+    foreign(offset, packed, card, memory);
 }

@@ -13,30 +13,35 @@ pub struct Trace {
     pub device: Device,
 }
 
-// The last of the first `events` lines that changes what is watched, or 0.
-pub(crate) fn line(packed: &[u8], events: usize, card: &[u8], watch: Watch) -> usize {
-    let mut memory = [0u8; trial::MEMORY];
-    let scene = trial::run(packed, events, card, &mut memory, watch);
+// The last of the first `events` lines that changes what is watched, or 0. A board lives through the job in `memory`.
+pub(crate) fn line(
+    packed: &[u8],
+    events: usize,
+    card: &[u8],
+    watch: Watch,
+    memory: &mut [u8],
+) -> usize {
+    let scene = trial::run(packed, events, card, memory, watch);
     scene.changed
 }
 
-// The device after so many lines.
-fn after(packed: &[u8], events: usize, card: &[u8]) -> Device {
-    let mut memory = [0u8; trial::MEMORY];
-    let scene = trial::run(packed, events, card, &mut memory, Watch::Pointer);
-    scene.device
-}
-
 // The last of the first `events` lines that changes the byte at a place of the memory.
-pub(crate) fn last(packed: &[u8], events: usize, card: &[u8], place: usize) -> Trace {
-    let line = line(packed, events, card, Watch::Byte(place));
+pub(crate) fn last(
+    packed: &[u8],
+    events: usize,
+    card: &[u8],
+    place: usize,
+    memory: &mut [u8],
+) -> Trace {
+    let line = line(packed, events, card, Watch::Byte(place), memory);
     if line == 0 {
         return Trace {
             line,
             device: Device::START,
         };
     }
-    let device = after(packed, line - 1, card);
+    let scene = trial::run(packed, line - 1, card, memory, Watch::Pointer);
+    let device = scene.device;
     Trace { line, device }
 }
 

@@ -37,14 +37,15 @@ pub struct Scene {
     pub changed: usize,
 }
 
-// The board gets the options of the card.
-fn equip(memory: &mut [u8], card: &[u8]) {
+// A board whose flash and RAM are all `old`, with the options of the card.
+fn equip(memory: &mut [u8], old: u8, card: &[u8]) {
     if memory.len() != MEMORY {
         return;
     }
     if card.len() != OPTIONS {
         return;
     }
+    buffer::fill(memory, 0, OPTIONS_AT, old);
     buffer::put(memory, OPTIONS_AT, card);
 }
 
@@ -117,21 +118,14 @@ fn latest(changed: usize, number: usize, before: u32, after: u32) -> usize {
     number
 }
 
-// The first `events` events of a job, or all where there are not so many, on a board with this card.
-pub(crate) fn run(
-    packed: &[u8],
-    events: usize,
-    card: &[u8],
-    memory: &mut [u8],
-    watch: Watch,
-) -> Scene {
+// The first `events` events of a job, or all where there are not so many, on the board with this memory.
+fn live(packed: &[u8], events: usize, memory: &mut [u8], watch: Watch) -> Scene {
     let mut block = [0u8; TRANSFER];
     let mut reply = [0u8; TRANSFER];
     let mut device = Device::START;
     let mut at = 0;
     let mut count = 0;
     let mut changed = 0;
-    equip(memory, card);
     let mut seen = sight(watch, device, memory);
     while count < events && at < packed.len() {
         let end = end_of(packed, at);
@@ -148,6 +142,24 @@ pub(crate) fn run(
         at,
         changed,
     }
+}
+
+// The same, on a board with this card, whose flash and RAM were all zero.
+pub(crate) fn run(
+    packed: &[u8],
+    events: usize,
+    card: &[u8],
+    memory: &mut [u8],
+    watch: Watch,
+) -> Scene {
+    equip(memory, 0, card);
+    live(packed, events, memory, watch)
+}
+
+// The memory after the whole job, on a board whose flash and RAM were all `old`.
+pub(crate) fn outlive(packed: &[u8], card: &[u8], old: u8, memory: &mut [u8]) {
+    equip(memory, old, card);
+    live(packed, packed.len(), memory, Watch::Pointer);
 }
 
 // The first place from `from` on whose byte is not erased, outside write-protected pages.

@@ -1,21 +1,18 @@
--- `check_job::trial::run` is safe and ends. Assumes nothing.
+-- `check_job::trial::live` is safe and ends. Assumes nothing.
 use borrow.Author.Needs.{needs}
 use lib.ListN.{length}
 use Prim.Native.Nat.{_-_, _≤_}
 use mathlib.Core.Path.{_≡_}
-use Rattle.check_job.proofs.trial.run.Statement.{statement}
-use Rattle.check_job.proofs.trial.run.Tie as tie
+use Rattle.check_job.proofs.trial.live.Statement.{statement}
+use Rattle.check_job.proofs.trial.live.Tie as tie
 
 abbrev Inv-loop : tie.InvT-loop
-Inv-loop packed events card memory₀ watch block₀ reply₀ device₀ at₀ count₀ changed₀ seen₀ memory block reply device at count changed seen =
+Inv-loop packed events memory₀ watch block₀ reply₀ device₀ at₀ count₀ changed₀ seen₀ memory block reply device at count changed seen =
     (count ≤ events) × (length memory ≡ length memory₀) × (length block ≡ length block₀) × (length reply ≡ length reply₀)
 
 abbrev μ-loop : tie.MeasureT-loop
-μ-loop packed events card memory₀ watch block₀ reply₀ device₀ at₀ count₀ changed₀ seen₀ memory block reply device at count changed seen =
+μ-loop packed events memory₀ watch block₀ reply₀ device₀ at₀ count₀ changed₀ seen₀ memory block reply device at count changed seen =
     events - count
-
-equip-requires : tie.Need-equip-requires Inv-loop μ-loop
-equip-requires c κs = search needs
 
 sight-requires : tie.Need-sight-requires Inv-loop μ-loop
 sight-requires c κs = search needs
@@ -62,13 +59,12 @@ same-length-2 c = search needs
 returns-2 : tie.Need-returns-2 Inv-loop μ-loop
 returns-2 c = search needs
 
-pub run-spec : {M : Type 1} → statement M
-run-spec =
+pub live-spec : {M : Type 1} → statement M
+live-spec =
     tie.close
     (tie.spec
     Inv-loop
     μ-loop
-    equip-requires
     sight-requires
     loop-holds
     end-of-requires
