@@ -60,12 +60,17 @@ pub(crate) fn astray(scene: Scene, leave: usize) {
     say::text(b".");
 }
 
-// What to do about options that are not the card's.
-fn restore(is_protected: bool) {
+// What to do about options that are not the card's, from byte `i` on. Where byte 0 is not, and the card is not
+// read-protected, the job protects the board, which then takes no options back.
+fn restore(i: usize, is_protected: bool) {
     if is_protected {
         say::text(
             b" The card is read-protected: lift that on the board first, which erases the flash, then check a job with no read unprotect with the card that the board has then.",
         );
+        return;
+    }
+    if i == 0 {
+        say::text(b" That protects the board from reading. Take it out of the job.");
         return;
     }
     say::text(b" Take it out of the job, or write the card's bytes back before the job leaves.");
@@ -87,5 +92,5 @@ pub(crate) fn altered(packed: &[u8], card: &[u8], memory: &mut [u8]) {
     say::text(b" then and not ");
     say::byte(buffer::byte_at(card, i));
     say::text(b" as on the card.");
-    restore(board::locked(card, 0));
+    restore(i, board::locked(card, 0));
 }
