@@ -7,13 +7,15 @@ use Rattle.loader.specs.declared.Answer.{Answer}
 use Rattle.loader.specs.declared.Answer.the-variants.{Accepted, Reply, Stall, Silent, Refused}
 use Rattle.loader.specs.declared.Stepped.{Stepped}
 
--- the first number of a Reply, of a Stall and of Silent
+-- the first number of a Reply
 abbrev pub replyTold : ℕ
 replyTold = 1
 
+-- the first number of a Stall
 abbrev pub stallTold : ℕ
 stallTold = 2
 
+-- the first number of Silent
 abbrev pub silentTold : ℕ
 silentTold = 3
 
