@@ -10,7 +10,7 @@ use Rattle.board.specs.Layout.{flashFirst, flashBytes, ramFirst, ramByte
 unfoldable pub spans : ℕ → ℕ → ℕ → ℕ → Bool
 spans first bytes address count = leb first address && leb (address - first + count) bytes
 
--- "the span lies in one region": which one, and where its first byte stands in the memory buffer
+-- "Read and write checks", 2: the region that the whole span lies in, if there is one, and where its first byte stands in the memory buffer
 unfoldable pub placeOf : ℕ → ℕ → ℕ → Place
 placeOf n address count =
     cond (spans flashFirst (flashBytes n) address count) (Flash (address - flashFirst))

@@ -23,7 +23,7 @@ idled d = record { mode = Idle; status = 0; pointer = d .pointer; pending = Noth
 abbrev pub failed : Device → ℕ → Device
 failed d status = record { mode = Error; status = status; pointer = d .pointer; pending = Nothing }
 
--- "A Stall makes the mode 10 with status 15 unless another is named, and drops anything pending; in mode 10 the old status stays"
+-- "A Stall makes the mode 10 with status 15 .. unless another is named, and drops anything pending; in mode 10 the old status stays"
 abbrev pub stalled : Device → ℕ → Device
 stalled d status = failed d (cond (isMode 10 (d .mode)) (d .status) status)
 

@@ -9,7 +9,7 @@ use Rattle.device.specs.declared.Mode.{Mode}
 use Rattle.device.specs.declared.Mode.the-variants.{Idle, DownloadSync, DownloadBusy, DownloadIdle, ManifestSync, UploadIdle, Error, Left, Rebooting}
 use Rattle.device.specs.Wire.{wireOf}
 
--- column "Modes", by wire numbers; "all else stalls"
+-- column "Modes", by wire numbers; "All else .. stalls"
 abbrev pub modesOf : Request → List ℕ
 modesOf Download = 2 ∷ 5 ∷ []
 modesOf Upload = 2 ∷ 9 ∷ []

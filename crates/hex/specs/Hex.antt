@@ -31,7 +31,7 @@ bytesOf [] = []
 bytesOf (d ∷ []) = []
 bytesOf (d ∷ e ∷ ds) = byteOf d e ∷ bytesOf ds
 
--- bytes as one number, the first the lowest
+-- how the code takes eight digits at once: bytes as one number, the first the lowest; no rule of the paper goes by it
 unfoldable pub numberOf : List ℕ → ℕ
 numberOf [] = 0
 numberOf (x ∷ xs) = numberOf xs * 256 + x

@@ -42,7 +42,7 @@ unfoldable pub packOf : Event → List ℕ
 packOf attach = 0 ∷ []
 packOf (request q) = 1 ∷ q
 
--- "one after another": the packed list of some events
+-- "In memory a list of events is packed": each event stands behind the one before it
 unfoldable pub packedOf : List Event → List ℕ
 packedOf [] = []
 packedOf (e ∷ es) = packOf e ++ packedOf es
