@@ -10,7 +10,7 @@ use Rattle.board.specs.Span.{placeOf}
 use Rattle.board.proofs.Span.{Lies, place-lies}
 use Rattle.action.specs.declared.Access.{Access}
 use Rattle.action.specs.declared.Access.the-variants.{Denied, InFlash, InRam, InOptions}
-use Rattle.action.specs.Access.{checkedOf, accessOf}
+use Rattle.action.specs.Access.{blockAddress, checkedOf, accessOf, blockAccess}
 
 abbrev pub Granted : ℕ → ℕ → Access → Type 0
 Granted n count (Denied status) = T true
@@ -24,7 +24,11 @@ checked-granted n count (Ram at) l = by-bool (ltb count 2) (λ e. rw e tt) (λ e
 checked-granted n count (Options at) l = by-bool (eqb at (optionsFrom n) && eqb count optionBytes) (λ e. rw e l) (λ e. rw e tt)
 checked-granted n count Outside l = tt
 
-pub access-granted : (n : ℕ) (protected : Bool) (address count : ℕ) → Granted n count (accessOf n protected address count)
+access-granted : (n : ℕ) (protected : Bool) (address count : ℕ) → Granted n count (accessOf n protected address count)
 unfolding accessOf
 access-granted n true address count = tt
 access-granted n false address count = checked-granted n count (placeOf n address count) (place-lies n address count)
+
+pub block-granted : (n : ℕ) (protected : Bool) (block count pointer : ℕ) → Granted n count (blockAccess n protected block count pointer)
+unfolding blockAccess
+block-granted n protected block count pointer = access-granted n protected (blockAddress block count pointer) count

@@ -28,3 +28,7 @@ checkedOf n count Outside = Denied errTARGET
 -- checks 1 and 2, "first that applies"
 unfoldable pub accessOf : ℕ → Bool → ℕ → ℕ → Access
 accessOf n protected address count = cond protected (Denied errVENDOR) (checkedOf n count (placeOf n address count))
+
+-- what the block with this number and length may be used for: its address, then the checks; no other definition names the address
+unfoldable pub blockAccess : ℕ → Bool → ℕ → ℕ → ℕ → Access
+blockAccess n protected block count pointer = accessOf n protected (blockAddress block count pointer) count

@@ -15,7 +15,7 @@ use Rattle.action.specs.declared.Action.the-variants.{Rest, Fail, Point,
 use Rattle.device.specs.declared.Ran.{Ran}
 use Rattle.device.specs.Wire.{errTARGET, errVENDOR}
 use Rattle.device.specs.WellFormed.{inRegion}
-use Rattle.action.specs.Access.{accessOf, blockAddress}
+use Rattle.action.specs.Access.{blockAccess}
 
 -- "Set pointer: outside every region is 1; read protection does not matter"
 abbrev pub pointOf : ℕ → ℕ → Action
@@ -46,7 +46,7 @@ actionIn (SetPointer address) n protected pointer = pointOf n address
 actionIn (ErasePage address) n protected pointer = eraseOf n protected address
 actionIn MassErase n protected pointer = cond protected (Fail errVENDOR) EraseAll
 actionIn ReadUnprotect n protected pointer = cond protected Unprotect ClearRam
-actionIn (Write block count) n protected pointer = storeAt (accessOf n protected (blockAddress block count pointer) count) count
+actionIn (Write block count) n protected pointer = storeAt (blockAccess n protected block count pointer) count
 
 -- "GETSTATUS", mode 3: what the device's pending command does
 unfoldable pub actionOf : ℕ → Bool → Device → Action

@@ -2,7 +2,8 @@
 ghost use mathlib.Core.Path.{_≡_};
 ghost use mathlib.Core.Bool.{cond};
 ghost use lib.Dec.{ltb};
-ghost use Rattle.action.specs.Access.{blockAddress, optionsAt, accessOf};
+ghost use Rattle.device.specs.Wire.{errTARGET, errVENDOR};
+ghost use Rattle.action.specs.Access.{blockAddress, optionsAt, accessOf, blockAccess};
 ghost use Rattle.action.specs.Action.{actionOf, pointOf, eraseAt, eraseOf, storeAt, movedOf, rebootsOf, ranOf};
 use board::Board;
 use board::Place;
@@ -32,7 +33,7 @@ pub enum Action {
     StoreOptions { at: usize, count: u16 },
 }
 
-// The address of a block: one rule for reads and writes.
+// The address of a block.
 pub fn block_address(block: u16, count: u16, pointer: u32) -> u64
     ensures { λ r. ⌜ r ≡ blockAddress block count pointer ⌝ }
 {
@@ -43,7 +44,7 @@ pub fn block_address(block: u16, count: u16, pointer: u32) -> u64
 }
 
 // The checks that a read and a write share, in their order.
-pub fn examine(board: Board, protected: bool, address: u64, count: u16) -> Access
+fn examine(board: Board, protected: bool, address: u64, count: u16) -> Access
     ensures { λ r. ⌜ r ≡ accessOf (board .pages) protected address count ⌝ }
 {
     if protected {
@@ -58,9 +59,21 @@ pub fn examine(board: Board, protected: bool, address: u64, count: u16) -> Acces
     }
 }
 
+// What the block with this number and length may be used for: one rule for reads and writes.
+pub fn examine_block(board: Board, protected: bool, block: u16, count: u16, pointer: u32) -> Access
+    ensures { λ r. ⌜ r ≡ blockAccess (board .pages) protected block count pointer ⌝ }
+{
+    examine(
+        board,
+        protected,
+        block_address(block, count, pointer),
+        count,
+    )
+}
+
 // Flash and RAM are used by two bytes or more.
 fn at_least_two(count: u16, access: Access) -> Access
-    ensures { λ r. ⌜ r ≡ cond (ltb count 2) (Access.Denied 1) access ⌝ }
+    ensures { λ r. ⌜ r ≡ cond (ltb count 2) (Access.Denied errTARGET) access ⌝ }
 {
     if count < 2 {
         return Access::Denied(Device::TARGET);
@@ -93,8 +106,11 @@ pub fn intend(board: Board, protected: bool, device: Device) -> Action
         Pending::MassErase => guarded(protected, Action::EraseAll),
         Pending::ReadUnprotect => unprotect(protected),
         Pending::Write { block, count } => {
-            let address = block_address(block, count, device.pointer);
-            store(examine(board, protected, address, count), count)
+            let pointer = device.pointer;
+            store(
+                examine_block(board, protected, block, count, pointer),
+                count,
+            )
         }
     }
 }
@@ -110,7 +126,7 @@ fn point(board: Board, address: u32) -> Action
 
 // An erase, which read protection forbids.
 fn guarded(protected: bool, action: Action) -> Action
-    ensures { λ r. ⌜ r ≡ cond protected (Action.Fail 11) action ⌝ }
+    ensures { λ r. ⌜ r ≡ cond protected (Action.Fail errVENDOR) action ⌝ }
 {
     if protected {
         return Action::Fail(Device::VENDOR);

@@ -6,7 +6,7 @@ use Prim.Native.Nat.{ℕ}
 use native.Mathlib.Omega.{arith}
 use lib.ListN.{length, replicate, length-replicate}
 use Rattle.board.specs.Layout.{loggerPages, optionBytes}
-use Rattle.hex.specs.Hex.{allBytes}
+use Rattle.laws.specs.Lists.{allBytes}
 use Rattle.verdict.specs.declared.Verdict.the-variants.{End}
 use Rattle.verdict.specs.Verdict.{endFails, Judged}
 use Rattle.verdict.specs.Checked.{workBytes}

@@ -13,7 +13,7 @@ use Rattle.device.specs.Table.{allowedOf}
 use Rattle.device.specs.State.{started, afterStatus, reportOf}
 use Rattle.device.specs.WellFormed.{inRegion, wellFormed}
 use Rattle.decision.specs.Decide.{commandOf, commandedOf, downloadOf, decideOf}
-use Rattle.action.specs.Access.{blockAddress, accessOf}
+use Rattle.action.specs.Access.{blockAddress, accessOf, blockAccess}
 use Rattle.action.specs.Action.{actionOf}
 use Rattle.memory.specs.Flash.{each, blank, laid, stored, erased}
 use Rattle.loader.specs.declared.Event.the-variants as event
@@ -53,7 +53,7 @@ stateOf o = state (o .answer ++ take (getD (o .answer) 1 0) (o .reply)) (o .devi
 
 -- what a deed comes to: by the promises' own definitions, and by `verdictOf`, which the law `judged` ties to the promised verdict
 unfoldable pub found : Deed → Finding
-unfolding put filled spans placeOf lockedFrom wordFrom readProtected wordOf writeProtected outwardOf inwardOf requestOf setupOf dataLength fitsOf allowedOf afterStatus reportOf inRegion wellFormed commandOf commandedOf downloadOf decideOf blockAddress accessOf actionOf each blank laid stored erased runOf statusOf serveOf admittedOf stepOf overOf endFails lowestFrom endNumber endVerdict verdictOf
+unfolding put filled spans placeOf lockedFrom wordFrom readProtected wordOf writeProtected outwardOf inwardOf requestOf setupOf dataLength fitsOf allowedOf afterStatus reportOf inRegion wellFormed commandOf commandedOf downloadOf decideOf blockAddress accessOf blockAccess actionOf each blank laid stored erased runOf statusOf serveOf admittedOf stepOf overOf endFails lowestFrom endNumber endVerdict verdictOf
 found (locate value count pointer) = address (blockAddress value count pointer)
 found (ask qs m) = stateOf (asked qs (attached m))
 found (check es image card) = judgement (verdictOf loggerPages es image card (replicate (workBytes loggerPages) 0))

@@ -1,6 +1,6 @@
 -- The board's regions. Document 01, "The board". Everything is over the number n of flash pages. Assumes nothing.
 use mathlib.Core.List.{List, _∷_}
-use Prim.Native.Nat.{ℕ, _+_, _*_}
+use Prim.Native.Nat.{ℕ, _+_, _*_, _-_, _/_}
 use lib.ListN.{replicate}
 
 -- "The board", table: flash has 16 pages; the one place that says so
@@ -10,6 +10,10 @@ loggerPages = 16
 -- table, row flash: the size of a page
 abbrev pub pageBytes : ℕ
 pageBytes = 1024
+
+-- how many pages so many bytes take, the last perhaps in part; the one place that rounds
+abbrev pub pagesOf : ℕ → ℕ
+pagesOf count = (count + (pageBytes - 1)) / pageBytes
 
 -- table, row flash: its first address
 abbrev pub flashFirst : ℕ

@@ -1,3 +1,4 @@
 pub mod Layout
 pub mod Span
 pub mod Protection
+pub mod Supply

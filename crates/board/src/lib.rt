@@ -1,8 +1,12 @@
 // The board: where its regions lie, what is protected, and which span of addresses lies where.
 ghost use mathlib.Core.Path.{_≡_};
-ghost use Rattle.board.specs.Layout.{flashBytes, ramFrom, optionsFrom, memoryBytes, defaults};
+ghost use lib.ListN.{length};
+ghost use Rattle.board.specs.Layout.{pagesOf, flashBytes, ramFrom, optionsFrom, memoryBytes, defaults};
+ghost use Rattle.board.specs.Supply.{supplied};
 ghost use Rattle.board.specs.Span.{placeOf, spans};
 ghost use Rattle.board.specs.Protection.{lockedFrom, wordFrom, writeProtected, anyProtected, wordOf, readProtected};
+use refusal::Admission;
+use refusal::Refusal;
 
 // A board is known by its number of flash pages; all else of the layout follows.
 pub struct Board {
@@ -63,6 +67,22 @@ impl Board {
         ensures { λ r. ⌜ r ≡ memoryBytes (self .pages) ⌝ }
     {
         self.pages as usize * Board::PAGE + Board::RAM_BYTES + Board::OPTION_BYTES
+    }
+
+    // The refusals of an image and a card of these lengths, in their order.
+    pub fn supplied(self, image: usize, card: usize) -> Admission
+        ensures { λ r. ⌜ r ≡ supplied (self .pages) image card ⌝ }
+    {
+        if image == 0 {
+            return Admission::Refused(Refusal::Image);
+        }
+        if self.flash_bytes() < image {
+            return Admission::Refused(Refusal::Image);
+        }
+        if card != Board::OPTION_BYTES {
+            return Admission::Refused(Refusal::Card);
+        }
+        Admission::Admitted
     }
 
     // Which region the `count` addresses from `address` on lie in.
@@ -150,4 +170,11 @@ pub fn any_protected(word: u32, count: usize) -> bool
         page += 1;
     }
     any
+}
+
+// How many pages an image takes.
+pub fn pages_of(image: &[u8]) -> usize
+    ensures { λ r. ⌜ r ≡ pagesOf (length (now (image .entry))) ⌝ }
+{
+    (image.len() + (Board::PAGE - 1)) / Board::PAGE
 }

@@ -16,8 +16,8 @@ use Rattle.laws.proofs.Split.{by-lt}
 use Rattle.board.specs.Layout.{optionsFrom, optionBytes, memoryBytes}
 use Rattle.request.specs.Request.{transferBytes}
 use Rattle.device.specs.State.{started}
-use Rattle.hex.specs.Hex.{allBytes}
-use Rattle.job.proofs.Formed.{bytes-append}
+use Rattle.laws.specs.Lists.{allBytes}
+use Rattle.laws.proofs.Lists.{bytes-append}
 use Rattle.verdict.specs.World.{World, Fresh}
 use Rattle.verdict.specs.Checked.{workBytes}
 use Rattle.cells.specs.Cells.{known, marked, learnt, begun}

@@ -34,11 +34,11 @@ use Rattle.decision.specs.Decide.{commandOf, decideOf, waiting}
 use Rattle.decision.proofs.Cases.{decide-case}
 use Rattle.action.specs.declared.Access.{Access}
 use Rattle.action.specs.declared.Access.the-variants.{Denied, InFlash, InRam, InOptions}
-use Rattle.action.specs.Access.{accessOf, blockAddress}
+use Rattle.action.specs.Access.{blockAccess}
 use Rattle.loader.specs.declared.Event.the-variants as event
 use Rattle.loader.specs.declared.Answer.the-variants.{Accepted}
 use Rattle.loader.specs.Answer.{Outcome, outcome}
-use Rattle.loader.specs.Serve.{InOrder, runOf, statusBytes, statusOf, readAt, readOf, commandCodes, actedOf, serveOf}
+use Rattle.loader.specs.Serve.{InOrder, runOf, statusBytes, statusOf, readAt, uploadedOf, commandCodes, actedOf, serveOf}
 use Rattle.loader.specs.Step.{admittedOf, stepOf}
 use Rattle.job.specs.Event.{Event, attach, request}
 use Rattle.verdict.specs.World.{World, worldOf, steppedOf, fails, asksStatus, isGetStatus}
@@ -185,10 +185,10 @@ module _ (n : ℕ) (d : Device) (q m b y m₀ w : List ℕ) (form : Form n d) (f
 
   -- the board finds the access that was found for all
   found : Access
-  found = accessOf n (readProtected n w) (blockAddress (setupOf q .value) (setupOf q .length) (d .pointer)) (setupOf q .length)
+  found = blockAccess n (readProtected n w) (setupOf q .value) (setupOf q .length) (d .pointer)
 
-  read-found : readOf n d (setupOf q) m b y ≡ readAt found (setupOf q .length) d m b y
-  unfolding readOf found
+  read-found : uploadedOf n d (setupOf q) m b y ≡ readAt found (setupOf q .length) d m b y
+  unfolding uploadedOf found
   read-found = rw (protection-same n m₀ m w s)
 
   moves-found : readsMoves n d (setupOf q) w ≡ readMoves found d w

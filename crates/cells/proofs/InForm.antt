@@ -13,7 +13,7 @@ use Rattle.device.specs.declared.Mode.the-variants.{UploadIdle}
 use Rattle.device.specs.declared.Device.{Device}
 use Rattle.device.specs.declared.Ran.{Ran}
 use Rattle.device.specs.Wire.{isMode}
-use Rattle.device.specs.State.{reportOf}
+use Rattle.device.specs.State.{reportOf, nothingRan}
 use Rattle.device.specs.WellFormed.{inRegion}
 use Rattle.device.proofs.Form.{Form, Sane, Calm, entered-form, after-status-form}
 use Rattle.decision.specs.declared.Decision.{Decision}
@@ -24,7 +24,7 @@ use Rattle.action.specs.declared.Access.{Access}
 use Rattle.action.specs.declared.Access.the-variants.{Denied, InFlash, InRam, InOptions}
 use Rattle.action.specs.declared.Action.{Action}
 use Rattle.action.specs.declared.Action.the-variants.{Rest, Fail, Point, Erase, EraseAll, Unprotect, ClearRam, StoreFlash, StoreRam, StoreOptions}
-use Rattle.action.specs.Access.{accessOf, blockAddress}
+use Rattle.action.specs.Access.{blockAccess}
 use Rattle.action.specs.Action.{actionIn, actionOf, ranOf}
 use Rattle.loader.proofs.Form.{Proper, action-proper, went-well, started-form}
 use Rattle.job.specs.Event.{Event, attach, request}
@@ -61,7 +61,7 @@ module _ (n : ℕ) (d : Device) (f : Form n d) where
       let action = actionIn (d .pending) n (readProtected n w) (d .pointer) in
       by-bool (isMode 3 (d .mode))
       (λ e. rw e (reports-in-form (ranOf action (d .pointer) (workedOf n action w .status)) (workedOf n action w .work) (worked-sane n (d .pointer) w (f .pointer) action (action-proper n (readProtected n w) (d .pointer) (d .pending)))))
-      (λ e. rw e (reports-in-form (record { status = 0; pointer = d .pointer; reboots = false }) w (record { well = λ z. f .pointer; ill = λ z. absurd (true≢false z) })))
+      (λ e. rw e (reports-in-form (nothingRan d) w (record { well = λ z. f .pointer; ill = λ z. absurd (true≢false z) })))
 
   read-in-form : (access : Access) (w : List ℕ) → Calm (d .mode) → InForm n (readMoves access d w)
   read-in-form (Denied status) w c = tt
@@ -76,7 +76,7 @@ module _ (n : ℕ) (d : Device) (f : Form n d) where
   decision-in-form (decided.Accept next) s xs w h = h
   decision-in-form (decided.Take next) s xs w h = h
   decision-in-form (decided.Commands next count) s xs w h = h
-  decision-in-form decided.Read s xs w h = read-in-form (accessOf n (readProtected n w) (blockAddress (s .value) (s .length) (d .pointer)) (s .length)) w h
+  decision-in-form decided.Read s xs w h = read-in-form (blockAccess n (readProtected n w) (s .value) (s .length) (d .pointer)) w h
   decision-in-form decided.State s xs w h = f
   decision-in-form decided.Status s xs w h = status-in-form w
 

@@ -18,13 +18,13 @@ use Rattle.device.specs.declared.Pending.the-variants.{Nothing, SetPointer, Era
 use Rattle.device.specs.declared.Device.{Device}
 use Rattle.device.specs.declared.Ran.{Ran}
 use Rattle.device.specs.Wire.{isMode}
-use Rattle.device.specs.State.{afterStatus, reportOf}
+use Rattle.device.specs.State.{afterStatus, reportOf, nothingRan}
 use Rattle.device.specs.WellFormed.{inRegion}
 use Rattle.device.proofs.Form.{Form, well-formed}
 use Rattle.action.specs.declared.Action.{Action}
 use Rattle.action.specs.declared.Access.{Access}
 use Rattle.action.specs.declared.Access.the-variants.{Denied, InFlash, InRam, InOptions}
-use Rattle.action.specs.Access.{accessOf, blockAddress}
+use Rattle.action.specs.Access.{blockAccess}
 use Rattle.action.specs.Action.{storeAt, eraseAt, actionIn, actionOf, ranOf}
 use Rattle.loader.specs.Perform.{performedOf, countOf}
 use Rattle.loader.specs.Serve.{Run, run, runOf}
@@ -69,7 +69,7 @@ module _ (n : ℕ) (b w : List ℕ) where
   action-has false pointer MassErase h = refl
   action-has true pointer ReadUnprotect h = refl
   action-has false pointer ReadUnprotect h = refl
-  action-has protected pointer (Write block count) h = store-has count (accessOf n protected (blockAddress block count pointer) count) h
+  action-has protected pointer (Write block count) h = store-has count (blockAccess n protected block count pointer) h
 
 -- a GETSTATUS whose command went well on every board, or one with nothing to run
 pub record Ran′ (n : ℕ) (d : Device) (b m₀ m w : List ℕ) (d′ : Device) (w′ : List ℕ) : Type 0 where
@@ -129,7 +129,7 @@ module _ (n : ℕ) (d : Device) (b m₀ m w : List ℕ) (f : Form n d) (held : H
   unfolding runOf action
   run-acts e = rw (e, protection-same n m₀ m w s)
 
-  run-rests : isMode 3 (d .mode) ≡ false → runOf n d b m ≡ run (record { status = 0; pointer = d .pointer; reboots = false }) m
+  run-rests : isMode 3 (d .mode) ≡ false → runOf n d b m ≡ run (nothingRan d) m
   unfolding runOf
   run-rests e = rw e
 
@@ -149,7 +149,7 @@ module _ (n : ℕ) (d : Device) (b m₀ m w : List ℕ) (f : Form n d) (held : H
         alike = rw (ap (λ (x : Run). x .memory) (run-acts y), sym (r .2)) (p .alike);
       })
       (λ y.
-      let ran : Ran = record { status = 0; pointer = d .pointer; reboots = false } in
+      let ran : Ran = nothingRan d in
       let r = reports-zero d d′ ran w w′ (rw y at e) in
       let same : runOf n d b m .ran ≡ ran = ap (λ (x : Run). x .ran) (run-rests y) in
       record {
@@ -169,6 +169,6 @@ module _ (n : ℕ) (d : Device) (b m₀ m w : List ℕ) (f : Form n d) (held : H
       let same : runOf n d b m .ran ≡ ran = ap (λ (x : Run). x .ran) (run-acts y) ∙ ap (ranOf action (d .pointer)) p in
       ap (λ (x : Ran). eqb (reportOf d x .status) 0) same ∙ rw (sync-shows d ran y ill) ill)
       (λ y.
-      let ran : Ran = record { status = 0; pointer = d .pointer; reboots = false } in
+      let ran : Ran = nothingRan d in
       let same : runOf n d b m .ran ≡ ran = ap (λ (x : Run). x .ran) (run-rests y) in
       ap (λ (x : Ran). eqb (reportOf d x .status) 0) same ∙ reports-falls d ran w (rw y at e))

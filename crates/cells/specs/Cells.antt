@@ -15,7 +15,7 @@ use Rattle.device.specs.declared.Mode.the-variants.{UploadIdle}
 use Rattle.device.specs.declared.Device.{Device}
 use Rattle.device.specs.declared.Ran.{Ran}
 use Rattle.device.specs.Wire.{errWRITE, isMode}
-use Rattle.device.specs.State.{started, entered, afterStatus, reportOf}
+use Rattle.device.specs.State.{started, entered, afterStatus, reportOf, nothingRan}
 use Rattle.decision.specs.declared.Decision.{Decision}
 use Rattle.decision.specs.declared.Decision.the-variants as decided
 use Rattle.decision.specs.Decide.{commandOf, decideOf}
@@ -23,11 +23,12 @@ use Rattle.action.specs.declared.Access.{Access}
 use Rattle.action.specs.declared.Access.the-variants.{Denied, InFlash, InRam, InOptions}
 use Rattle.action.specs.declared.Action.{Action}
 use Rattle.action.specs.declared.Action.the-variants.{Rest, Fail, Point, Erase, EraseAll, Unprotect, ClearRam, StoreFlash, StoreRam, StoreOptions}
-use Rattle.action.specs.Access.{accessOf, blockAddress}
+use Rattle.action.specs.Access.{blockAccess}
 use Rattle.action.specs.Action.{actionOf, ranOf}
 use Rattle.memory.specs.Flash.{each, blank, stored}
 use Rattle.memory.specs.Whole.{unprotected}
-use Rattle.job.specs.Event.{Event, attach, request, same}
+use Rattle.laws.specs.Lists.{same}
+use Rattle.job.specs.Event.{Event, attach, request}
 use Rattle.verdict.specs.declared.Verdict.{Verdict}
 use Rattle.verdict.specs.declared.Verdict.the-variants as verdict
 use Rattle.verdict.specs.Verdict.{endFails, pagesEnd}
@@ -108,7 +109,7 @@ runs n action d w = reports d (ranOf action (d .pointer) (workedOf n action w .s
 unfoldable pub statusMoves : ℕ → Device → List ℕ → Moved
 statusMoves n d w =
     cond (isMode 3 (d .mode)) (runs n (actionOf n (readProtected n w) d) d w)
-    (reports d (record { status = 0; pointer = d .pointer; reboots = false }) w)
+    (reports d (nothingRan d) w)
 
 -- an UPLOAD by what its checks say
 abbrev pub readMoves : Access → Device → List ℕ → Moved
@@ -119,7 +120,7 @@ readMoves (InOptions at) d w = goes (entered d UploadIdle) w
 
 -- an UPLOAD of memory; its checks look at the options alone
 unfoldable pub readsMoves : ℕ → Device → Setup → List ℕ → Moved
-readsMoves n d s w = readMoves (accessOf n (readProtected n w) (blockAddress (s .value) (s .length) (d .pointer)) (s .length)) d w
+readsMoves n d s w = readMoves (blockAccess n (readProtected n w) (s .value) (s .length) (d .pointer)) d w
 
 -- a request with the setup s and the data stage xs
 abbrev pub decisionMoves : Decision → ℕ → Device → Setup → List ℕ → List ℕ → Moved

@@ -8,7 +8,7 @@ use crate::say;
 use crate::trace;
 use crate::trial;
 use crate::trial::Watch;
-use job::Done;
+use refusal::Done;
 use verdict::Verdict;
 
 fn passed(image: usize) {

@@ -15,8 +15,8 @@ mod trial;
 
 use board::Board;
 use files::Got;
-use job::Done;
 use libc::STDOUT_FILENO;
+use refusal::Done;
 use refusal::Refusal;
 use verdict::Verdict;
 

@@ -30,7 +30,7 @@ use Rattle.checker.specs.Walk.{movedAs, Ahead, Further, Advanced}
 -- what stands at a place from which on the text is that of its events
 module _ (t : List ℕ) (at : ℕ) (a : Ahead t at) where
   -- a well-formed line, while there is text
-  pub ahead-formed : at < length t → text.wellFormed (firstLine (drop at t)) ≡ true
+  pub ahead-formed : at < length t → text.wellSpelled (firstLine (drop at t)) ≡ true
   ahead-formed h = formed-here t at (eventsOf (drop at t)) (a .text) (a .right) h
 
   -- not its end, while there is text

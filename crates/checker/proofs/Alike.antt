@@ -11,7 +11,7 @@ use lib.ListN.{length, drop, getD, drop-of-length-le}
 use lib.Seq.{drop-cons}
 use borrow.Author.Tests.{eqb-true}
 use Rattle.laws.proofs.Split.{and-true, and-right-true}
-use Rattle.job.specs.Event.{same}
+use Rattle.laws.specs.Lists.{same}
 use Rattle.checker.specs.Walk.{allAre}
 
 and-assoc : (a b c : Bool) → (a && b) && c ≡ a && (b && c)

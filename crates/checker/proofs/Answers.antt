@@ -15,9 +15,10 @@ use Rattle.request.specs.Request.{transferBytes}
 use Rattle.device.specs.declared.Device.{Device}
 use Rattle.device.specs.declared.Ran.{Ran}
 use Rattle.device.specs.Wire.{wireOf}
+use Rattle.device.specs.State.{nothingRan}
 use Rattle.action.specs.declared.Access.{Access}
 use Rattle.action.specs.declared.Action.{Action}
-use Rattle.action.specs.Access.{accessOf, blockAddress}
+use Rattle.action.specs.Access.{blockAccess}
 use Rattle.action.specs.Action.{actionOf, ranOf}
 use Rattle.decision.specs.declared.Command.{Command}
 use Rattle.decision.specs.declared.Decision.{Decision}
@@ -55,7 +56,7 @@ block-has n count w l h =
     let room : count ≤ length (drop (blockFrom n) w) = rw length-drop (omega arith) in
     length-take-le count (drop (blockFrom n) w) room
 
-pub status-rests : (n : ℕ) (d : Device) (w : List ℕ) → (wireOf (d .mode) ≡ 3 → ⊥) → reports d (record { status = 0; pointer = d .pointer; reboots = false }) w ≡ statusMoves n d w
+pub status-rests : (n : ℕ) (d : Device) (w : List ℕ) → (wireOf (d .mode) ≡ 3 → ⊥) → reports d (nothingRan d) w ≡ statusMoves n d w
 unfolding statusMoves
 status-rests n d w h = rw (ne-eqb (wireOf (d .mode)) 3 h)
 
@@ -64,9 +65,9 @@ unfolding statusMoves
 status-runs n d w w′ protected action status ran m p a f r =
     rw (m, ← p, ← a, r) (ap (λ (x : Worked). reports d (ranOf action (d .pointer) (x .status)) (x .work)) f)
 
-pub read-moves : (n : ℕ) (d : Device) (s : Setup) (w : List ℕ) (protected : Bool) (address : ℕ) (access x : Access) → protected ≡ readProtected n w → address ≡ blockAddress (s .value) (s .length) (d .pointer) → access ≡ accessOf n protected address (s .length) → access ≡ x → readMoves x d w ≡ readsMoves n d s w
+pub read-moves : (n : ℕ) (d : Device) (s : Setup) (w : List ℕ) (protected : Bool) (access x : Access) → protected ≡ readProtected n w → access ≡ blockAccess n protected (s .value) (s .length) (d .pointer) → access ≡ x → readMoves x d w ≡ readsMoves n d s w
 unfolding readsMoves
-read-moves n d s w protected address access x p a e t = rw (← t, e, a, p)
+read-moves n d s w protected access x p e t = rw (← t, e, p)
 
 pub request-moves : (n : ℕ) (d : Device) (s : Setup) (xs w : List ℕ) (command : Command) (decision x : Decision) → command ≡ commandOf xs → decision ≡ decideOf d s command → decision ≡ x → decisionMoves x n d s xs w ≡ requestMoves n d s xs w
 unfolding requestMoves

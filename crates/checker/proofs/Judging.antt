@@ -9,19 +9,21 @@ use Rattle.refusal.specs.declared.Refusal.{Refusal}
 use Rattle.refusal.specs.declared.Refusal.the-variants as refusal
 use Rattle.device.specs.declared.Device.{Device}
 use Rattle.device.specs.State.{started}
-use Rattle.loader.specs.declared.Admission.{Admission}
-use Rattle.loader.specs.declared.Admission.the-variants as admission
-use Rattle.job.specs.declared.Done.{Done}
-use Rattle.job.specs.declared.Done.the-variants.{Bytes, Refused}
-use Rattle.hex.specs.Hex.{allBytes}
+use Rattle.refusal.specs.declared.Admission.{Admission}
+use Rattle.refusal.specs.declared.Admission.the-variants as admission
+use Rattle.refusal.specs.declared.Done.{Done}
+use Rattle.refusal.specs.declared.Done.the-variants.{Bytes, Refused}
+use Rattle.laws.specs.Lists.{allBytes}
 use Rattle.job.specs.Event.{Event, attach, request, fits, proper}
 use Rattle.job.specs.Text.{firstBad, eventsOf}
-use Rattle.job.specs.Calls.{told, measureOf}
-use Rattle.job.proofs.Answers.{told-injective}
+use Rattle.refusal.specs.Delivery.{inNumbers}
+use Rattle.job.specs.Calls.{measureOf}
+use Rattle.refusal.proofs.Delivery.{numbers-injective}
 use Rattle.job.proofs.EventText.{proper-parts, good-text, good-proper}
 use Rattle.verdict.specs.declared.Verdict.{Verdict}
 use Rattle.verdict.specs.declared.Verdict.the-variants as verdict
-use Rattle.verdict.specs.Checked.{workBytes, supplied, readable, then, checkable, Checked}
+use Rattle.board.specs.Supply.{supplied}
+use Rattle.verdict.specs.Checked.{workBytes, readable, then, checkable, Checked}
 use Rattle.verdict.proofs.Supply.{Checkable, checkable-parts}
 use Rattle.cells.specs.Cells.{overOf, endVerdict, overVerdict, begun, verdictOf}
 use Rattle.cells.proofs.Events.{Fitting}
@@ -45,12 +47,12 @@ module _ (n : ℕ) (es : List Event) (image card w w₁ w₂ : List ℕ) (r : Ou
   judged-ended d v is so = so ∙ sym (ap (overVerdict n image card) (over-is ∙ ap (λ (x : Outcome). overAs x w₂) is))
 
 -- what the reader's answer r comes to
-module _ (t : List ℕ) (r : Done) (is : told r ≡ told (measureOf t)) where
+module _ (t : List ℕ) (r : Done) (is : inNumbers r ≡ inNumbers (measureOf t)) where
   pub readable-bytes : (size : ℕ) → r ≡ Bytes size → admission.Admitted ≡ readable (measureOf t)
-  readable-bytes size so = ap readable (sym so ∙ told-injective r (measureOf t) is)
+  readable-bytes size so = ap readable (sym so ∙ numbers-injective r (measureOf t) is)
 
   pub readable-refused : (why : Refusal) → r ≡ Refused why → admission.Refused why ≡ readable (measureOf t)
-  readable-refused why so = ap readable (sym so ∙ told-injective r (measureOf t) is)
+  readable-refused why so = ap readable (sym so ∙ numbers-injective r (measureOf t) is)
 
 -- the refusals in their order
 module _ (n : ℕ) (t : List ℕ) (image card work : ℕ) where

@@ -9,8 +9,8 @@ use lib.Seq.{getD-take, getD-drop}
 use borrow.Author.Tests.{eq-eqb}
 use Rattle.laws.proofs.Split.{by-lt}
 use Rattle.board.specs.Layout.{flashBytes, memoryBytes}
-use Rattle.job.specs.Event.{same}
-use Rattle.job.proofs.FirstLine.{same-eq}
+use Rattle.laws.specs.Lists.{same}
+use Rattle.laws.proofs.Lists.{same-eq}
 use Rattle.verdict.specs.Verdict.{pagesEnd}
 use Rattle.verdict.specs.Checked.{workBytes}
 use Rattle.cells.specs.Cells.{suspect, lowestFrom}

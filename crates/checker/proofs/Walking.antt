@@ -11,7 +11,7 @@ use borrow.Author.Tests.{lt-ltb, le-ltb}
 use Rattle.laws.specs.Bytes.{put}
 use Rattle.board.specs.Layout.{flashBytes, memoryBytes, optionsFrom, optionBytes}
 use Rattle.device.specs.declared.Device.{Device}
-use Rattle.job.specs.Event.{same}
+use Rattle.laws.specs.Lists.{same}
 use Rattle.verdict.specs.declared.Verdict.the-variants as verdict
 use Rattle.verdict.specs.Verdict.{pagesEnd}
 use Rattle.cells.specs.Cells.{marked, learnt, begun, suspect, lowestFrom, flashVerdict, endNumber, endOr, endVerdict}

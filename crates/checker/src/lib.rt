@@ -18,7 +18,7 @@ ghost use Rattle.memory.specs.Flash.{each, stored};
 ghost use Rattle.memory.specs.Whole.{unprotected};
 ghost use Rattle.decision.specs.Decide.{commandOf, decideOf, isStatus};
 ghost use Rattle.hex.specs.Hex.{allDigits, bytesOf};
-ghost use Rattle.job.specs.Event.{same};
+ghost use Rattle.laws.specs.Lists.{same};
 ghost use Rattle.job.specs.Text.{eventsOf};
 ghost use Rattle.job.specs.Calls.{measureOf};
 ghost use Rattle.verdict.specs.Verdict.{isLeft};
@@ -33,9 +33,9 @@ use decision::Decision;
 use device::Device;
 use device::Mode;
 use device::Ran;
-use job::Done;
 use job::Item;
-use loader::Admission;
+use refusal::Admission;
+use refusal::Done;
 use refusal::Refusal;
 use request::Setup;
 use verdict::Verdict;
@@ -337,21 +337,13 @@ fn status(board: Board, device: Device, work: &mut [u8]) -> Step
     ensures { λ r. ⌜ movedAs r (now (work .exit)) ≡ statusMoves (board .pages) device (now (work .entry)) ⌝ }
 {
     let mode = device.mode;
-    let pointer = device.pointer;
     if mode.wire() != 3 {
-        return report(
-            device,
-            Ran {
-                status: 0,
-                pointer,
-                reboots: false,
-            },
-        );
+        return report(device, device.nothing_ran());
     }
     let protected = board.read_protected(work);
     let action = action::intend(board, protected, device);
     let status = act(board, action, work);
-    report(device, action.ran(pointer, status))
+    report(device, action.ran(device.pointer, status))
 }
 
 fn report(device: Device, ran: Ran) -> Step
@@ -370,8 +362,7 @@ fn upload(board: Board, device: Device, setup: Setup, work: &[u8]) -> Step
 {
     let protected = board.read_protected(work);
     let count = setup.length;
-    let address = action::block_address(setup.value, count, device.pointer);
-    let access = action::examine(board, protected, address, count);
+    let access = action::examine_block(board, protected, setup.value, count, device.pointer);
     match access {
         Access::Denied(_) => falling(device),
         Access::InFlash(_) => going(device.enter(Mode::UploadIdle)),
@@ -459,7 +450,7 @@ fn is_suspect(board: Board, image: &[u8], work: &[u8], f: usize) -> bool
     if f < image.len() {
         return differs(mark, work[f], image[f]);
     }
-    if f < verdict::pages_of(image) * Board::PAGE {
+    if f < board::pages_of(image) * Board::PAGE {
         return differs(mark, work[f], 0xFF);
     }
     mark == 1
@@ -481,7 +472,7 @@ fn is_right(board: Board, image: &[u8], work: &[u8]) -> bool
     ensures { λ r. ⌜ (r ≡ true → flashBytes (board .pages) ≡ lowestFrom (suspect (board .pages) (now (image .entry)) (now (work .entry))) (flashBytes (board .pages)) 0) ⌝ }
 {
     let size = board.flash_bytes();
-    let end = verdict::pages_of(image) * Board::PAGE;
+    let end = board::pages_of(image) * Board::PAGE;
     if !same_bytes(&work[0..image.len()], image) {
         return false;
     }
@@ -668,7 +659,7 @@ fn admit(board: Board, job: &[u8], image: usize, card: usize, work: usize) -> Ad
     if work != block_from(board) + Setup::TRANSFER as usize {
         return Admission::Refused(Refusal::Work);
     }
-    let supplied = verdict::supplied(board, image, card);
+    let supplied = board.supplied(image, card);
     match supplied {
         Admission::Refused(why) => Admission::Refused(why),
         Admission::Admitted => readable(job),

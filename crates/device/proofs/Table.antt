@@ -6,8 +6,8 @@ use Prim.Native.Nat.{ℕ, _<_}
 use native.Mathlib.Omega.{arith}
 use lib.Dec.{T, eqb, eqb→eq}
 use lib.ListN.{length, getD}
-use Rattle.laws.specs.Table.{every, same}
-use Rattle.laws.proofs.Table.{every-at, same-eq, and-left, and-right}
+use Rattle.laws.specs.Table.{every, agree}
+use Rattle.laws.proofs.Table.{every-at, agree-eq, and-left, and-right}
 use Rattle.request.specs.declared.Request.{Request}
 use Rattle.request.specs.declared.Request.the-variants.{Download, Upload, GetStatus, ClearStatus, GetState, Abort, Unknown}
 use Rattle.device.specs.declared.Mode.{Mode}
@@ -62,7 +62,7 @@ mode-column Rebooting = refl
 
 -- entry x of row r and column c is as the rule has it
 right : ℕ → ℕ → ℕ → Bool
-right r c x = same (eqb x 1) (allowedOf (requestAt r) (modeAt c))
+right r c x = agree (eqb x 1) (allowedOf (requestAt r) (modeAt c))
 
 rightRow : ℕ → List ℕ → Bool
 rightRow r row = eqb (length row) 9 && every (right r) 0 row
@@ -91,7 +91,7 @@ row-is request mode r c er ec hr =
     let n : length row ≡ 9 = eqb→eq (length row) 9 (and-left (eqb (length row) 9) (every (right r) 0 row) t) in
     let h : c < length row = omega (arith, column-below mode) in
     let e = every-at (right r) 0 row (and-right (eqb (length row) 9) (every (right r) 0 row) t) c h in
-    same-eq (eqb (getD row c 0) 1) (allowedOf (requestAt r) (modeAt c)) e
+    agree-eq (eqb (getD row c 0) 1) (allowedOf (requestAt r) (modeAt c)) e
     ∙ ap₂ allowedOf (ap requestAt er ∙ request-row request) (ap modeAt ec ∙ mode-column mode)
 
 -- Unknown has no row, and is taken nowhere

@@ -6,7 +6,7 @@ ghost use lib.Dec.{eqb};
 ghost use lib.ListN.{getD};
 ghost use Rattle.device.specs.Wire.{wireOf};
 ghost use Rattle.device.specs.Table.{allowedOf, columnOf};
-ghost use Rattle.device.specs.State.{started, idled, failed, stalled, entered, finished, ranReport, reportOf, afterStatus};
+ghost use Rattle.device.specs.State.{started, nothingRan, idled, failed, stalled, entered, finished, ranReport, reportOf, afterStatus};
 ghost use Rattle.device.specs.WellFormed.{wellFormed, inRegion, pendingFits, writeFits, statusFits};
 use board::Board;
 use board::Place;
@@ -190,6 +190,17 @@ impl Device {
         ensures { λ r. ⌜ r ≡ entered self mode ⌝ }
     {
         Device { mode, ..self }
+    }
+
+    // What ran where nothing waits.
+    pub fn nothing_ran(self) -> Ran
+        ensures { λ r. ⌜ r ≡ nothingRan self ⌝ }
+    {
+        Ran {
+            status: 0,
+            pointer: self.pointer,
+            reboots: false,
+        }
     }
 
     // The state after a GETSTATUS, `ran` being what the pending command came to.

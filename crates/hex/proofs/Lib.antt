@@ -1,4 +1,3 @@
 pub mod OneDigit
 pub mod Fields
-pub mod Bytes
 pub mod Wide

@@ -32,16 +32,11 @@ bytesOf (d ∷ []) = []
 bytesOf (d ∷ e ∷ ds) = byteOf d e ∷ bytesOf ds
 
 -- how the code takes eight digits at once: bytes as one number, the first the lowest; no rule of the paper goes by it
-unfoldable pub numberOf : List ℕ → ℕ
-numberOf [] = 0
-numberOf (x ∷ xs) = numberOf xs * 256 + x
+unfoldable pub joinedOf : List ℕ → ℕ
+joinedOf [] = 0
+joinedOf (x ∷ xs) = joinedOf xs * 256 + x
 
 -- the field that spells some bytes
 unfoldable pub hexOf : List ℕ → List ℕ
 hexOf [] = []
 hexOf (x ∷ xs) = digitOf (x / 16) ∷ digitOf x ∷ hexOf xs
-
--- each is a byte: what a field can spell
-unfoldable pub allBytes : List ℕ → Bool
-allBytes [] = true
-allBytes (x ∷ xs) = ltb x 256 && allBytes xs

@@ -6,7 +6,7 @@ ghost use Prim.Native.Nat.{_+_, _*_, _/_, _≤_, _<_};
 ghost use lib.Dec.{ltb};
 ghost use lib.ListN.{length};
 ghost use Rattle.laws.specs.Bytes.{put};
-ghost use Rattle.hex.specs.Hex.{valueOf, digitOf, byteOf, faultOf, allDigits, bytesOf, numberOf, hexOf};
+ghost use Rattle.hex.specs.Hex.{valueOf, digitOf, byteOf, faultOf, allDigits, bytesOf, joinedOf, hexOf};
 
 // The digit of the low half of a byte.
 pub fn digit(byte: u8) -> u8
@@ -96,7 +96,7 @@ fn join(a: u8, b: u8, c: u8, d: u8, e: u8, f: u8, g: u8, h: u8) -> u64
 // A field of eight digits as one number.
 fn number(field: &[u8]) -> u64
     requires { ⌜ length (now field) ≡ 8 ⌝ }
-    ensures { λ r. ⌜ r ≡ numberOf (now (field .entry)) ⌝ }
+    ensures { λ r. ⌜ r ≡ joinedOf (now (field .entry)) ⌝ }
 {
     join(
         field[0],
@@ -113,7 +113,7 @@ fn number(field: &[u8]) -> u64
 // The values of eight digits, each in the byte of its digit.
 fn values(field: &[u8]) -> u64
     requires { ⌜ (length (now field) ≡ 8) × (allDigits (now field) ≡ true) ⌝ }
-    ensures { λ r. ⌜ r ≡ numberOf (map valueOf (now (field .entry))) ⌝ }
+    ensures { λ r. ⌜ r ≡ joinedOf (map valueOf (now (field .entry))) ⌝ }
 {
     let x = number(field);
     (x & 0x0F0F_0F0F_0F0F_0F0F) + ((x >> 6) & 0x0101_0101_0101_0101) * 9

@@ -1,4 +1,4 @@
--- An answer's numbers tell which answer it is, and what each call gives in each case. Assumes nothing.
+-- What reader and writer give in each case. Assumes nothing.
 use mathlib.Core.Path.{_≡_, ap, ap₂, _∙_, sym}
 use mathlib.Core.Bool.{true, false}
 use mathlib.Core.List.{List, [], _∷_}
@@ -13,50 +13,23 @@ use Rattle.refusal.specs.declared.Refusal.{Refusal}
 use Rattle.refusal.specs.declared.Refusal.the-variants.{Text, Line, Output, Request}
 use Rattle.refusal.specs.Refusal.{numberOf}
 use Rattle.refusal.proofs.Numbers.{refusal-injective, number-some}
-use Rattle.job.specs.declared.Done.{Done}
-use Rattle.job.specs.declared.Done.the-variants.{Bytes, Refused}
+use Rattle.refusal.specs.declared.Done.{Done}
+use Rattle.refusal.specs.declared.Done.the-variants.{Bytes, Refused}
 use Rattle.job.specs.Event.{textOf, packedOf}
 use Rattle.job.specs.Text.{limit, firstBad, eventsOf}
 use Rattle.job.specs.Packed.{capped, packs, unpacked}
-use Rattle.job.specs.Calls.{told, Outcome, left, delivered, measureOf, reads, readOf, sizeOf, writeOf}
+use Rattle.refusal.specs.Delivery.{inNumbers, Delivery, delivery, delivered}
+use Rattle.refusal.proofs.Delivery.{first, numbers-injective, delivered-bytes, delivered-room}
+use Rattle.job.specs.Calls.{measureOf, reads, readOf, sizeOf, writeOf}
 use Rattle.job.proofs.SpellSize.{capped-is, capped-long}
-
-first : List ℕ → ℕ
-first l = getD l 0 0
-
-second : List ℕ → ℕ
-second l = getD l 1 0
-
-pub told-injective : (r s : Done) → told r ≡ told s → r ≡ s
-unfolding first second
-told-injective (Bytes m) (Bytes n) e = ap Bytes (ap second e)
-told-injective (Bytes m) (Refused s) e = let z : 0 ≡ numberOf s = ap first e in let h = number-some s in absurd (omega arith)
-told-injective (Refused r) (Bytes n) e = let z : numberOf r ≡ 0 = ap first e in let h = number-some r in absurd (omega arith)
-told-injective (Refused r) (Refused s) e = ap Refused (refusal-injective r s (ap first e) (ap second e))
-
--- two outcomes that are the same agree in answer and buffer
-pub left-injective : (r s : Done) (x y : List ℕ) → left r x ≡ left s y → (r ≡ s) × (x ≡ y)
-left-injective r s x y e = (told-injective r s (ap (λ (o : Outcome). o .answer) e), ap (λ (o : Outcome). o .buffer) e)
-
--- what was delivered, where an answer of n bytes was given
-delivered-bytes : (xs out : List ℕ) (n : ℕ) → delivered xs out .answer ≡ 0 ∷ n ∷ [] → (n ≡ length xs) × (delivered xs out .buffer ≡ put 0 xs out)
-unfolding delivered first second
-delivered-bytes xs out n e =
-    by-bool (leb (length xs) (length out))
-    (λ h. (sym (ap second (rw h at e)), rw h))
-    (λ h. let z : _≡_ {A = ℕ} 11 0 = ap first (rw h at e) in absurd (omega arith))
-
-pub delivered-room : (xs out : List ℕ) → length xs ≤ length out → delivered xs out ≡ left (Bytes (length xs)) (put 0 xs out)
-unfolding delivered
-delivered-room xs out h = rw (le-leb (length xs) (length out) h)
 
 -- the reader in each case
 module _ (t out : List ℕ) where
-  pub read-long : limit < length t → readOf t out ≡ left (Refused Text) out
+  pub read-long : limit < length t → readOf t out ≡ delivery (Refused Text) out
   unfolding measureOf readOf
   read-long h = rw (lt-ltb limit (length t) h)
 
-  pub read-bad : length t ≤ limit → (firstBad t ≡ 0 → ⊥) → readOf t out ≡ left (Refused (Line (firstBad t))) out
+  pub read-bad : length t ≤ limit → (firstBad t ≡ 0 → ⊥) → readOf t out ≡ delivery (Refused (Line (firstBad t))) out
   unfolding measureOf readOf
   read-bad h n = rw (le-ltb limit (length t) h, ne-eqb (firstBad t) 0 n)
 
@@ -69,21 +42,21 @@ module _ (t out : List ℕ) where
   unfolding first
   read-bytes n e =
       by-lt limit (length t)
-      (λ h. let z : _≡_ {A = ℕ} 9 0 = ap first (sym (ap (λ (o : Outcome). o .answer) (read-long h)) ∙ e) in absurd (omega arith))
+      (λ h. let z : _≡_ {A = ℕ} 9 0 = ap first (sym (ap (λ (o : Delivery). o .answer) (read-long h)) ∙ e) in absurd (omega arith))
       (λ h.
       by-eq (firstBad t) 0
       (λ g.
       let r = read-good h g in
-      let d = delivered-bytes (packedOf (eventsOf t)) out n (sym (ap (λ (o : Outcome). o .answer) r) ∙ e) in
-      (h, g, d .0, ap (λ (o : Outcome). o .buffer) r ∙ d .1))
-      (λ g. let z : _≡_ {A = ℕ} 10 0 = ap first (sym (ap (λ (o : Outcome). o .answer) (read-bad h g)) ∙ e) in absurd (omega arith)))
+      let d = delivered-bytes (packedOf (eventsOf t)) out n (sym (ap (λ (o : Delivery). o .answer) r) ∙ e) in
+      (h, g, d .0, ap (λ (o : Delivery). o .buffer) r ∙ d .1))
+      (λ g. let z : _≡_ {A = ℕ} 10 0 = ap first (sym (ap (λ (o : Delivery). o .answer) (read-bad h g)) ∙ e) in absurd (omega arith)))
 
 -- the reader by what `measure` answered
-module _ (t out : List ℕ) (r : Done) (is : told r ≡ told (measureOf t)) where
+module _ (t out : List ℕ) (r : Done) (is : inNumbers r ≡ inNumbers (measureOf t)) where
   measured : r ≡ measureOf t
-  measured = told-injective r (measureOf t) is
+  measured = numbers-injective r (measureOf t) is
 
-  pub read-refused : (why : Refusal) → r ≡ Refused why → left (Refused why) out ≡ readOf t out
+  pub read-refused : (why : Refusal) → r ≡ Refused why → delivery (Refused why) out ≡ readOf t out
   unfolding readOf
   read-refused why e = ap (λ (d : Done). reads d t out) (sym e ∙ measured)
 
@@ -105,25 +78,25 @@ module _ (t out : List ℕ) (r : Done) (is : told r ≡ told (measureOf t)) wher
     pub measured-room : n ≤ length out → length (packedOf (eventsOf t)) ≤ length out
     measured-room h = let g = measured-good .2 in omega arith
 
-    pub read-short : length out < n → left (Refused Output) out ≡ readOf t out
+    pub read-short : length out < n → delivery (Refused Output) out ≡ readOf t out
     unfolding delivered
     read-short h =
         let g = measured-good in
         let l : length out < length (packedOf (eventsOf t)) = let k = g .2 in omega arith in
         sym (read-good t out (g .0) (g .1) ∙ rw (lt-leb (length (packedOf (eventsOf t))) (length out) l))
 
-    pub read-done : (out₂ : List ℕ) → n ≤ length out → out₂ ≡ put 0 (packedOf (eventsOf t)) out → left (Bytes n) out₂ ≡ readOf t out
+    pub read-done : (out₂ : List ℕ) → n ≤ length out → out₂ ≡ put 0 (packedOf (eventsOf t)) out → delivery (Bytes n) out₂ ≡ readOf t out
     read-done out₂ h p =
         let g = measured-good in
-        ap₂ (λ (k : ℕ) (l : List ℕ). left (Bytes k) l) (g .2) p ∙ sym (read-good t out (g .0) (g .1) ∙ delivered-room (packedOf (eventsOf t)) out (measured-room h))
+        ap₂ (λ (k : ℕ) (l : List ℕ). delivery (Bytes k) l) (g .2) p ∙ sym (read-good t out (g .0) (g .1) ∙ delivered-room (packedOf (eventsOf t)) out (measured-room h))
 
 -- the writer in each case
 module _ (p out : List ℕ) where
-  pub write-broken : packs p ≡ false → writeOf p out ≡ left (Refused Request) out
+  pub write-broken : packs p ≡ false → writeOf p out ≡ delivery (Refused Request) out
   unfolding writeOf
   write-broken h = rw h
 
-  pub write-long : packs p ≡ true → limit < length (textOf (unpacked p)) → writeOf p out ≡ left (Refused Text) out
+  pub write-long : packs p ≡ true → limit < length (textOf (unpacked p)) → writeOf p out ≡ delivery (Refused Text) out
   unfolding writeOf
   write-long h l = rw (h, lt-ltb limit (length (textOf (unpacked p))) l)
 
@@ -137,16 +110,16 @@ module _ (p out : List ℕ) where
       by-bool (packs p)
       (λ h.
       by-lt limit (length (textOf (unpacked p)))
-      (λ l. let z : _≡_ {A = ℕ} 9 0 = ap first (sym (ap (λ (o : Outcome). o .answer) (write-long h l)) ∙ e) in absurd (omega arith))
+      (λ l. let z : _≡_ {A = ℕ} 9 0 = ap first (sym (ap (λ (o : Delivery). o .answer) (write-long h l)) ∙ e) in absurd (omega arith))
       (λ l.
       let r = write-good h l in
-      let d = delivered-bytes (textOf (unpacked p)) out n (sym (ap (λ (o : Outcome). o .answer) r) ∙ e) in
-      (h, l, d .0, ap (λ (o : Outcome). o .buffer) r ∙ d .1)))
-      (λ h. let z : _≡_ {A = ℕ} 5 0 = ap first (sym (ap (λ (o : Outcome). o .answer) (write-broken h)) ∙ e) in absurd (omega arith))
+      let d = delivered-bytes (textOf (unpacked p)) out n (sym (ap (λ (o : Delivery). o .answer) r) ∙ e) in
+      (h, l, d .0, ap (λ (o : Delivery). o .buffer) r ∙ d .1)))
+      (λ h. let z : _≡_ {A = ℕ} 5 0 = ap first (sym (ap (λ (o : Delivery). o .answer) (write-broken h)) ∙ e) in absurd (omega arith))
 
 -- the writer by what `spelled_size` answered
 module _ (p out : List ℕ) (r : Done) (is : r ≡ sizeOf p) where
-  pub write-refused : (why : Refusal) → r ≡ Refused why → left (Refused why) out ≡ writeOf p out
+  pub write-refused : (why : Refusal) → r ≡ Refused why → delivery (Refused why) out ≡ writeOf p out
   unfolding sizeOf
   write-refused why e =
       let m : Refused why ≡ sizeOf p = sym e ∙ is in
@@ -154,7 +127,7 @@ module _ (p out : List ℕ) (r : Done) (is : r ≡ sizeOf p) where
       (λ h. let k : Refused why ≡ Bytes (capped (length (textOf (unpacked p)))) = rw h at m in let z : _≡_ {A = ℕ} 0 1 = cc in absurd (omega arith))
       (λ h.
       let k : Refused why ≡ Refused Request = rw h at m in
-      ap (λ (d : Done). left d out) k ∙ sym (write-broken p out h))
+      ap (λ (d : Done). delivery d out) k ∙ sym (write-broken p out h))
 
   -- an answer of n bytes is that of whole events
   module _ (n : ℕ) (e : r ≡ Bytes n) where
@@ -171,7 +144,7 @@ module _ (p out : List ℕ) (r : Done) (is : r ≡ sizeOf p) where
     pub sized-packs : packs p ≡ true
     sized-packs = sized .0
 
-    pub write-too-long : limit < n → left (Refused Text) out ≡ writeOf p out
+    pub write-too-long : limit < n → delivery (Refused Text) out ≡ writeOf p out
     write-too-long h = sym (write-long p out (sized .0) (capped-long (length (textOf (unpacked p))) n (sized .1) h))
 
     module _ (within : n ≤ limit) where
@@ -184,27 +157,23 @@ module _ (p out : List ℕ) (r : Done) (is : r ≡ sizeOf p) where
       pub sized-room : n ≤ length out → length (textOf (unpacked p)) ≤ length out
       sized-room h = let e = size-is in omega arith
 
-      pub write-short : length out < n → left (Refused Output) out ≡ writeOf p out
+      pub write-short : length out < n → delivery (Refused Output) out ≡ writeOf p out
       unfolding delivered
       write-short h =
           let l : length out < length (textOf (unpacked p)) = let e = size-is in omega arith in
           sym (write-good p out (sized .0) small ∙ rw (lt-leb (length (textOf (unpacked p))) (length out) l))
 
-      pub write-done : (out₂ : List ℕ) → n ≤ length out → out₂ ≡ put 0 (textOf (unpacked p)) out → left (Bytes n) out₂ ≡ writeOf p out
-      write-done out₂ h q = ap₂ (λ (k : ℕ) (l : List ℕ). left (Bytes k) l) size-is q ∙ sym (write-good p out (sized .0) small ∙ delivered-room (textOf (unpacked p)) out (sized-room h))
-
--- a list delivered under another name
-pub delivers : (xs ys out : List ℕ) → xs ≡ ys → length ys ≤ length out → delivered xs out ≡ left (Bytes (length ys)) (put 0 ys out)
-delivers xs ys out e h = ap (λ (l : List ℕ). delivered l out) e ∙ delivered-room ys out h
+      pub write-done : (out₂ : List ℕ) → n ≤ length out → out₂ ≡ put 0 (textOf (unpacked p)) out → delivery (Bytes n) out₂ ≡ writeOf p out
+      write-done out₂ h q = ap₂ (λ (k : ℕ) (l : List ℕ). delivery (Bytes k) l) size-is q ∙ sym (write-good p out (sized .0) small ∙ delivered-room (textOf (unpacked p)) out (sized-room h))
 
 -- a text without a malformed line is never refused with 10
-pub never-ten : (t out : List ℕ) (k : ℕ) → firstBad t ≡ 0 → readOf t out ≡ left (Refused (Line k)) out → ⊥
+pub never-ten : (t out : List ℕ) (k : ℕ) → firstBad t ≡ 0 → readOf t out ≡ delivery (Refused (Line k)) out → ⊥
 unfolding first delivered
 never-ten t out k g e =
     by-lt limit (length t)
-    (λ h. let z : _≡_ {A = ℕ} 9 10 = ap (λ (o : Outcome). first (o .answer)) (sym (read-long t out h) ∙ e) in omega arith)
+    (λ h. let z : _≡_ {A = ℕ} 9 10 = ap (λ (o : Delivery). first (o .answer)) (sym (read-long t out h) ∙ e) in omega arith)
     (λ h.
-    let d : delivered (packedOf (eventsOf t)) out ≡ left (Refused (Line k)) out = sym (read-good t out h g) ∙ e in
+    let d : delivered (packedOf (eventsOf t)) out ≡ delivery (Refused (Line k)) out = sym (read-good t out h g) ∙ e in
     by-bool (leb (length (packedOf (eventsOf t))) (length out))
-    (λ b. let z : _≡_ {A = ℕ} 0 10 = ap (λ (o : Outcome). first (o .answer)) (rw b at d) in omega arith)
-    (λ b. let z : _≡_ {A = ℕ} 11 10 = ap (λ (o : Outcome). first (o .answer)) (rw b at d) in omega arith))
+    (λ b. let z : _≡_ {A = ℕ} 0 10 = ap (λ (o : Delivery). first (o .answer)) (rw b at d) in omega arith)
+    (λ b. let z : _≡_ {A = ℕ} 11 10 = ap (λ (o : Delivery). first (o .answer)) (rw b at d) in omega arith))

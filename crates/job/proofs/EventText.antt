@@ -11,12 +11,14 @@ use lib.Seq.{length-take-le, drop-append-seam}
 use Rattle.laws.proofs.Split.{by-bool, and-true}
 use Rattle.request.specs.Setup.{fitsOf}
 use Rattle.request.proofs.Lengths.{fits-eight}
-use Rattle.hex.specs.Hex.{bytesOf, allBytes}
-use Rattle.job.specs.Event.{Event, attach, request, fits, inBytes, proper, lineOf, textOf, same}
-use Rattle.job.specs.Text.{firstLine, onto, linesOf, eventOf, wellFormed, badFrom, firstBad, eventsIn, eventsOf}
+use Rattle.hex.specs.Hex.{bytesOf}
+use Rattle.laws.specs.Lists.{same, allBytes}
+use Rattle.job.specs.Event.{Event, attach, request, fits, inBytes, proper, lineOf, textOf}
+use Rattle.job.specs.Text.{firstLine, onto, linesOf, eventOf, wellSpelled, badFrom, firstBad, eventsIn, eventsOf}
 use Rattle.job.proofs.Spelling.{spelled}
-use Rattle.job.proofs.FirstLine.{same-eq, first-spelled, lines-first, joined}
-use Rattle.job.proofs.Formed.{bytes-take, bytes-drop, event-spelled, formed-spelled, event-bytes}
+use Rattle.laws.proofs.Lists.{same-eq, bytes-take, bytes-drop}
+use Rattle.job.proofs.FirstLine.{first-spelled, lines-first, joined}
+use Rattle.job.proofs.Formed.{event-spelled, formed-spelled, event-bytes}
 
 -- the line of an event that fits gives the event back
 module _ (q : List ℕ) (f : fitsOf q ≡ true) (y : allBytes q ≡ true) where
@@ -27,7 +29,7 @@ module _ (q : List ℕ) (f : fitsOf q ≡ true) (y : allBytes q ≡ true) where
   unfolding lineOf
   request-event = event-spelled (take 8 q) (drop 8 q) (length-take-le 8 q (fits-eight q f)) (bytes-take 8 q y) (bytes-drop 8 q y) ∙ ap request halves
 
-  request-formed : wellFormed (lineOf (request q)) ≡ true
+  request-formed : wellSpelled (lineOf (request q)) ≡ true
   unfolding lineOf
   request-formed =
       formed-spelled (take 8 q) (drop 8 q) (length-take-le 8 q (fits-eight q f)) (bytes-take 8 q y) (bytes-drop 8 q y) (ap fitsOf halves ∙ f)
@@ -37,8 +39,8 @@ unfolding fits inBytes eventOf lineOf
 line-event attach f y = refl
 line-event (request q) f y = request-event q f y
 
-pub line-formed : (e : Event) → fits e ≡ true → inBytes e ≡ true → wellFormed (lineOf e) ≡ true
-unfolding fits inBytes wellFormed eventOf lineOf same
+pub line-formed : (e : Event) → fits e ≡ true → inBytes e ≡ true → wellSpelled (lineOf e) ≡ true
+unfolding fits inBytes wellSpelled eventOf lineOf same
 line-formed attach f y = refl
 line-formed (request q) f y = request-formed q f y
 
@@ -102,19 +104,19 @@ joined-lines (x ∷ t) =
     (λ e. rw e (joined-onto x (linesOf t) ∙ ap (λ (l : List ℕ). x ∷ l) (joined-lines t)))
 
 -- a well-formed line is the line of its event, which is proper
-formed-line : (l : List ℕ) → wellFormed l ≡ true → lineOf (eventOf l) ≡ l
-unfolding wellFormed
+formed-line : (l : List ℕ) → wellSpelled l ≡ true → lineOf (eventOf l) ≡ l
+unfolding wellSpelled
 formed-line l h = sym (same-eq l (lineOf (eventOf l)) (and-true (fits (eventOf l)) (same l (lineOf (eventOf l))) h .1))
 
-formed-fits : (l : List ℕ) → wellFormed l ≡ true → fits (eventOf l) ≡ true
-unfolding wellFormed
+formed-fits : (l : List ℕ) → wellSpelled l ≡ true → fits (eventOf l) ≡ true
+unfolding wellSpelled
 formed-fits l h = and-true (fits (eventOf l)) (same l (lineOf (eventOf l))) h .0
 
 -- lines none of which is malformed: the first is well formed, and so are the others
-pub good-first : (l : List ℕ) (ls : List (List ℕ)) (k : ℕ) → badFrom (suc k) (l ∷ ls) ≡ 0 → (wellFormed l ≡ true) × (badFrom (suc (suc k)) ls ≡ 0)
+pub good-first : (l : List ℕ) (ls : List (List ℕ)) (k : ℕ) → badFrom (suc k) (l ∷ ls) ≡ 0 → (wellSpelled l ≡ true) × (badFrom (suc (suc k)) ls ≡ 0)
 unfolding badFrom
 good-first l ls k h =
-    by-bool (wellFormed l)
+    by-bool (wellSpelled l)
     (λ e. (e, rw e at h))
     (λ e. let z : suc k ≡ 0 = rw e at h in absurd (omega arith))
 
@@ -151,14 +153,14 @@ bad-none (l ∷ ls) j k h =
 -- the line named is malformed, and each before it is well formed
 pub record Names (ls : List (List ℕ)) (i : ℕ) : Type 0 where
   pub within : i < length ls
-  pub malformed : wellFormed (getD ls i []) ≡ false
-  pub before : (j : ℕ) → j < i → wellFormed (getD ls j []) ≡ true
+  pub malformed : wellSpelled (getD ls i []) ≡ false
+  pub before : (j : ℕ) → j < i → wellSpelled (getD ls j []) ≡ true
 
 bad-names : (ls : List (List ℕ)) (k m : ℕ) → badFrom (suc k) ls ≡ suc m → (k ≤ m) × Names ls (m - k)
 unfolding badFrom
 bad-names [] k m h = absurd (omega arith)
 bad-names (l ∷ ls) k m h =
-    by-bool (wellFormed l)
+    by-bool (wellSpelled l)
     (λ e.
     let p = bad-names ls (suc k) m (rw e at h) in
     let c : k ≤ m = let q = p .0 in omega arith in
@@ -177,7 +179,7 @@ bad-names (l ∷ ls) k m h =
     let d : m - k ≡ 0 = omega arith in
     (c, rw d (record { within = omega arith; malformed = e; before = λ j w. absurd (not-suc-le-zero w) })))
   where
-    later : wellFormed l ≡ true → (i : ℕ) → ((j : ℕ) → j < i → wellFormed (getD ls j []) ≡ true) → (j : ℕ) → j < suc i → wellFormed (getD (l ∷ ls) j []) ≡ true
+    later : wellSpelled l ≡ true → (i : ℕ) → ((j : ℕ) → j < i → wellSpelled (getD ls j []) ≡ true) → (j : ℕ) → j < suc i → wellSpelled (getD (l ∷ ls) j []) ≡ true
     later e i g zero w = e
     later e i g (suc j) w = g j (le-of-suc-le-suc w)
 

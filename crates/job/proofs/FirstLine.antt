@@ -10,23 +10,9 @@ use borrow.Author.Tests.{eqb-true, eq-eqb, ne-eqb}
 use Rattle.laws.proofs.Split.{by-bool, and-true}
 use Rattle.hex.specs.Hex.{hexOf, digitOf}
 use Rattle.hex.proofs.OneDigit.{digit-above}
-use Rattle.job.specs.Event.{same}
+use Rattle.laws.specs.Lists.{same}
 use Rattle.job.specs.Text.{firstLine, onto, linesOf}
 use Rattle.job.proofs.Spelling.{spelled}
-
-pub same-refl : (xs : List ℕ) → same xs xs ≡ true
-unfolding same
-same-refl [] = refl
-same-refl (x ∷ xs) = rw (eq-eqb x x refl, same-refl xs)
-
-pub same-eq : (xs ys : List ℕ) → same xs ys ≡ true → xs ≡ ys
-unfolding same
-same-eq [] [] e = refl
-same-eq [] (y ∷ ys) e = absurd (false≢true e)
-same-eq (x ∷ xs) [] e = absurd (false≢true e)
-same-eq (x ∷ xs) (y ∷ ys) e =
-    let p = and-true (eqb x y) (same xs ys) e in
-    ap₂ _∷_ (eqb-true x y (p .0)) (same-eq xs ys (p .1))
 
 -- lists, one after the other
 unfoldable pub joined : List (List ℕ) → List ℕ

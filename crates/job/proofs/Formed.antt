@@ -11,12 +11,14 @@ use borrow.Author.Tests.{eqb-false, eq-eqb, ne-eqb, le-leb}
 use Rattle.laws.proofs.Split.{by-bool, and-true}
 use Rattle.request.specs.Setup.{setupOf, dataLength, fitsOf}
 use Rattle.request.proofs.Lengths.{fits-eight, fits-data}
-use Rattle.hex.specs.Hex.{bytesOf, allDigits, allBytes}
+use Rattle.hex.specs.Hex.{bytesOf, allDigits}
 use Rattle.hex.proofs.Fields.{bytes-are, bytes-hex, digits-hex}
-use Rattle.job.specs.Event.{request, fits, lineOf, same, inBytes}
-use Rattle.job.specs.Text.{firstLine, eventOf, wellFormed}
+use Rattle.laws.specs.Lists.{same, allBytes}
+use Rattle.job.specs.Event.{request, fits, lineOf, inBytes}
+use Rattle.job.specs.Text.{firstLine, eventOf, wellSpelled}
 use Rattle.job.proofs.Spelling.{spelled, Spelled, spelled-facts}
-use Rattle.job.proofs.FirstLine.{same-refl, same-eq, first-rest, first-kind, first-spelled}
+use Rattle.laws.proofs.Lists.{same-refl, same-eq, bytes-append, bytes-take, bytes-drop}
+use Rattle.job.proofs.FirstLine.{first-rest, first-kind, first-spelled}
 
 -- a request fits that has its setup, and the data that the setup asks for
 pub fits-if : (q : List ℕ) → 8 ≤ length q → length q ≡ 8 + dataLength (setupOf q) → fitsOf q ≡ true
@@ -29,35 +31,6 @@ unfolding setupOf
 setup-front a b h =
     let g : (i : ℕ) → i < 8 → getD (a ++ b) i 0 ≡ getD a i 0 = λ i k. List·getD-append a b 0 i (omega arith) in
     rw (g 0 (omega arith), g 1 (omega arith), g 2 (omega arith), g 3 (omega arith), g 4 (omega arith), g 5 (omega arith), g 6 (omega arith), g 7 (omega arith))
-
-pub bytes-append : (xs ys : List ℕ) → allBytes xs ≡ true → allBytes ys ≡ true → allBytes (xs ++ ys) ≡ true
-unfolding allBytes
-bytes-append [] ys h k = k
-bytes-append (x ∷ xs) ys h k =
-    let p = and-true (ltb x 256) (allBytes xs) h in
-    rw (p .0, bytes-append xs ys (p .1) k)
-
-pub bytes-apart : (xs ys : List ℕ) → allBytes (xs ++ ys) ≡ true → (allBytes xs ≡ true) × (allBytes ys ≡ true)
-unfolding allBytes
-bytes-apart [] ys h = (refl, h)
-bytes-apart (x ∷ xs) ys h =
-    let p = and-true (ltb x 256) (allBytes (xs ++ ys)) h in
-    let q = bytes-apart xs ys (p .1) in
-    (rw (p .0, q .0), q .1)
-
-pub bytes-take : (n : ℕ) (xs : List ℕ) → allBytes xs ≡ true → allBytes (take n xs) ≡ true
-unfolding allBytes
-bytes-take zero xs h = refl
-bytes-take (suc n) [] h = refl
-bytes-take (suc n) (x ∷ xs) h =
-    let p = and-true (ltb x 256) (allBytes xs) h in
-    rw (p .0, bytes-take n xs (p .1))
-
-pub bytes-drop : (n : ℕ) (xs : List ℕ) → allBytes xs ≡ true → allBytes (drop n xs) ≡ true
-unfolding allBytes
-bytes-drop zero xs h = h
-bytes-drop (suc n) [] h = refl
-bytes-drop (suc n) (x ∷ xs) h = bytes-drop n xs (and-true (ltb x 256) (allBytes xs) h .1)
 
 -- a spelled line gives its event back, and is well formed where the event fits
 module _ (a b : List ℕ) (la : length a ≡ 8) (ha : allBytes a ≡ true) (hb : allBytes b ≡ true) where
@@ -75,8 +48,8 @@ module _ (a b : List ℕ) (la : length a ≡ 8) (ha : allBytes a ≡ true) (hb :
   unfolding lineOf
   line-spelled = ap₂ (λ (x : List ℕ) (y : List ℕ). spelled x y []) (take-at a b 8 la) (drop-at a b 8 la)
 
-  pub formed-spelled : fitsOf (a ++ b) ≡ true → wellFormed (spelled a b []) ≡ true
-  unfolding wellFormed fits
+  pub formed-spelled : fitsOf (a ++ b) ≡ true → wellSpelled (spelled a b []) ≡ true
+  unfolding wellSpelled fits
   formed-spelled h = rw (event-spelled, h, line-spelled) (same-refl (spelled a b []))
 
 -- the first line of u is well formed, and spells a request: of setup a and data b, with r after it
@@ -99,8 +72,8 @@ asks-first x = ap firstLine (x .is) ∙ first-spelled (x .a) (x .b) (x .r)
 pub asks-event : {u : List ℕ} → (x : Asks u) → eventOf (firstLine u) ≡ request (x .a ++ x .b)
 asks-event x = ap eventOf (asks-first x) ∙ event-spelled (x .a) (x .b) (x .whole) (x .inA) (x .inB)
 
-pub asks-formed : {u : List ℕ} → (x : Asks u) → wellFormed (firstLine u) ≡ true
-asks-formed x = ap wellFormed (asks-first x) ∙ formed-spelled (x .a) (x .b) (x .whole) (x .inA) (x .inB) (x .fit)
+pub asks-formed : {u : List ℕ} → (x : Asks u) → wellSpelled (firstLine u) ≡ true
+asks-formed x = ap wellSpelled (asks-first x) ∙ formed-spelled (x .a) (x .b) (x .whole) (x .inA) (x .inB) (x .fit)
 
 pub asks-length : {u : List ℕ} → (x : Asks u) → length (firstLine u) ≡ 20 + length (x .b) * 2
 asks-length x =
@@ -125,16 +98,16 @@ unfolding eventOf
 event-request l n = rw (ne-eqb (getD l 0 0) 65 n)
 
 -- a well-formed line of another kind than `A`: its fields are digits, and it is the line of the request that they spell
-module _ (l : List ℕ) (formed : wellFormed l ≡ true) (other : getD l 0 0 ≡ 65 → ⊥) where
+module _ (l : List ℕ) (formed : wellSpelled l ≡ true) (other : getD l 0 0 ≡ 65 → ⊥) where
   abbrev asked : List ℕ
   asked = bytesOf (take 16 (drop 2 l)) ++ bytesOf (take (length l - 20) (drop 19 l))
 
   asked-fits : fitsOf asked ≡ true
-  unfolding wellFormed fits
+  unfolding wellSpelled fits
   asked-fits = ap fits (sym (event-request l other)) ∙ and-true (fits (eventOf l)) (same l (lineOf (eventOf l))) formed .0
 
   asked-line : l ≡ spelled (take 8 asked) (drop 8 asked) []
-  unfolding wellFormed lineOf
+  unfolding wellSpelled lineOf
   asked-line = same-eq l (lineOf (eventOf l)) (and-true (fits (eventOf l)) (same l (lineOf (eventOf l))) formed .1) ∙ ap lineOf (event-request l other)
 
   asked-whole : length (take 8 asked) ≡ 8
@@ -152,14 +125,14 @@ module _ (l : List ℕ) (formed : wellFormed l ≡ true) (other : getD l 0 0 ≡
       ap (λ (u : List ℕ). allDigits (take (length u - 20) (drop 19 u))) asked-line ∙ ap (λ (n : ℕ). allDigits (take n (drop 19 (spelled a b [])))) k ∙ ap allDigits (x .body) ∙ digits-hex b in
       bytes-append (bytesOf (take 16 (drop 2 l))) (bytesOf (take (length l - 20) (drop 19 l))) (bytes-are (take 16 (drop 2 l)) setup) (bytes-are (take (length l - 20) (drop 19 l)) body)
 
-pub event-bytes : (l : List ℕ) → wellFormed l ≡ true → inBytes (eventOf l) ≡ true
+pub event-bytes : (l : List ℕ) → wellSpelled l ≡ true → inBytes (eventOf l) ≡ true
 unfolding inBytes eventOf
 event-bytes l h =
     by-bool (eqb (getD l 0 0) 65)
     (λ e. rw e)
     (λ e. rw e (asked-bytes l h (eqb-false (getD l 0 0) 65 e)))
 
-pub asks : (u : List ℕ) → wellFormed (firstLine u) ≡ true → (getD u 0 0 ≡ 65 → ⊥) → Asks u
+pub asks : (u : List ℕ) → wellSpelled (firstLine u) ≡ true → (getD u 0 0 ≡ 65 → ⊥) → Asks u
 asks u h n =
     let l = firstLine u in
     let o : getD l 0 0 ≡ 65 → ⊥ = λ k. n (sym (first-kind u) ∙ k) in

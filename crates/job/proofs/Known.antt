@@ -11,13 +11,13 @@ use Rattle.request.specs.Setup.{setupOf, dataLength}
 use Rattle.request.specs.declared.Setup.{Setup}
 use Rattle.hex.specs.Hex.{allDigits, bytesOf}
 use Rattle.job.specs.declared.Item.the-variants as item
-use Rattle.job.specs.Text.{firstLine, wellFormed, lineLength}
+use Rattle.job.specs.Text.{firstLine, wellSpelled, lineLength}
 use Rattle.job.specs.Calls.{itemOf}
 use Rattle.job.proofs.Formed.{Asks, asks, asks-facts, asks-length, asks-setup, asks-digits, asks-data}
 use Rattle.job.proofs.LineLength.{length-good, attaches}
 use Rattle.job.proofs.Walking.{setup-here, item-attach, item-request}
 
-module _ (t : List ℕ) (at : ℕ) (more : at < length t) (formed : wellFormed (firstLine (drop at t)) ≡ true) where
+module _ (t : List ℕ) (at : ℕ) (more : at < length t) (formed : wellSpelled (firstLine (drop at t)) ≡ true) where
   measured : length (firstLine (drop at t)) ≡ lineLength (take (length t - at) (drop at t))
   measured = sym (length-good (drop at t) formed) ∙ ap lineLength (sym (rest-is at t))
 

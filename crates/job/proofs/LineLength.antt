@@ -11,23 +11,25 @@ use Rattle.laws.proofs.Split.{by-bool, and-true}
 use Rattle.request.specs.Setup.{setupOf, dataLength}
 use Rattle.hex.specs.Hex.{bytesOf, allDigits}
 use Rattle.hex.proofs.Fields.{bytes-are, bytes-length, digits-hex}
-use Rattle.job.specs.Event.{attach, fits, lineOf, same}
-use Rattle.job.specs.Text.{firstLine, eventOf, wellFormed, lineLength}
+use Rattle.laws.specs.Lists.{same}
+use Rattle.job.specs.Event.{attach, fits, lineOf}
+use Rattle.job.specs.Text.{firstLine, eventOf, wellSpelled, lineLength}
 use Rattle.job.proofs.Spelling.{is-spelled}
-use Rattle.job.proofs.FirstLine.{same-refl, same-eq, first-rest, first-kind, first-length, first-attach}
+use Rattle.laws.proofs.Lists.{same-refl, same-eq}
+use Rattle.job.proofs.FirstLine.{first-rest, first-kind, first-length, first-attach}
 use Rattle.job.proofs.Formed.{fits-if, setup-front, Asks, asks, asks-facts, asks-formed, asks-length, asks-setup, asks-data}
 
-pub length-good : (u : List ℕ) → wellFormed (firstLine u) ≡ true → lineLength u ≡ length (firstLine u)
+pub length-good : (u : List ℕ) → wellSpelled (firstLine u) ≡ true → lineLength u ≡ length (firstLine u)
 unfolding lineLength
 length-good u h = rw h
 
-pub length-bad : (u : List ℕ) → wellFormed (firstLine u) ≡ false → 0 ≡ lineLength u
+pub length-bad : (u : List ℕ) → wellSpelled (firstLine u) ≡ false → 0 ≡ lineLength u
 unfolding lineLength
 length-bad u h = rw h
 
 length-within : (u : List ℕ) (n : ℕ) → n ≡ lineLength u → n ≤ length u
 length-within u n e =
-    by-bool (wellFormed (firstLine u))
+    by-bool (wellSpelled (firstLine u))
     (λ h. let l : lineLength u ≡ length (firstLine u) = length-good u h in let w = first-length u in omega arith)
     (λ h. let l : 0 ≡ lineLength u = length-bad u h in omega arith)
 
@@ -45,8 +47,8 @@ pub record Attaches (u : List ℕ) : Type 0 where
   pub event : eventOf (firstLine u) ≡ attach
   pub is : u ≡ 65 ∷ 10 ∷ drop 2 u
 
-pub attaches : (u : List ℕ) → wellFormed (firstLine u) ≡ true → getD u 0 0 ≡ 65 → Attaches u
-unfolding wellFormed lineOf
+pub attaches : (u : List ℕ) → wellSpelled (firstLine u) ≡ true → getD u 0 0 ≡ 65 → Attaches u
+unfolding wellSpelled lineOf
 attaches u h k =
     let l = firstLine u in
     let e : eventOf l ≡ attach = event-attach l (first-kind u ∙ k) in
@@ -55,8 +57,8 @@ attaches u h k =
     let i : u ≡ 65 ∷ 10 ∷ drop (length l) u = sym (first-rest u) ∙ ap (λ (x : List ℕ). x ++ drop (length l) u) s in
     record { first = s; event = e; is = i ∙ ap (λ (n : ℕ). 65 ∷ 10 ∷ drop n u) (ap length s) }
 
-attach-formed : (u : List ℕ) → getD u 0 0 ≡ 65 → getD u 1 0 ≡ 10 → wellFormed (firstLine u) ≡ true
-unfolding wellFormed fits lineOf
+attach-formed : (u : List ℕ) → getD u 0 0 ≡ 65 → getD u 1 0 ≡ 10 → wellSpelled (firstLine u) ≡ true
+unfolding wellSpelled fits lineOf
 attach-formed [] k e = absurd (omega arith)
 attach-formed (x ∷ []) k e = absurd (omega arith)
 attach-formed (x ∷ y ∷ r) k e =
@@ -71,20 +73,20 @@ attach-line u k e =
 
 pub no-attach : (u : List ℕ) → getD u 0 0 ≡ 65 → (getD u 1 0 ≡ 10 → ⊥) → 0 ≡ lineLength u
 no-attach u k n =
-    by-bool (wellFormed (firstLine u))
+    by-bool (wellSpelled (firstLine u))
     (λ h. absurd (n (ap (λ (x : List ℕ). getD x 1 0) (attaches u h k .is))))
     (length-bad u)
 
 pub other-kind : (u : List ℕ) → (getD u 0 0 ≡ 65 → ⊥) → (getD u 0 0 ≡ 81 → ⊥) → 0 ≡ lineLength u
 other-kind u m n =
-    by-bool (wellFormed (firstLine u))
+    by-bool (wellSpelled (firstLine u))
     (λ h. absurd (n (asks-facts (asks u h m) .kind)))
     (length-bad u)
 
 -- a line of `Q`: what each test tells that fails
 module _ (u : List ℕ) (k : getD u 0 0 ≡ 81) where
   no-request : (Asks u → ⊥) → 0 ≡ lineLength u
-  no-request n = by-bool (wellFormed (firstLine u)) (λ h. absurd (n (asks u h (λ z. omega arith)))) (length-bad u)
+  no-request n = by-bool (wellSpelled (firstLine u)) (λ h. absurd (n (asks u h (λ z. omega arith)))) (length-bad u)
 
   pub too-short : length u < 20 → 0 ≡ lineLength u
   too-short h = no-request (λ x. let s = asks-facts x .size in omega arith)

@@ -15,11 +15,12 @@ use Rattle.refusal.proofs.Order.{behind, first-here}
 use Rattle.job.specs.Event.{textOf, packedOf}
 use Rattle.job.specs.Text.{limit, firstBad, eventsOf}
 use Rattle.job.specs.Packed.{packs, unpacked}
-use Rattle.job.specs.Calls.{told, Outcome, delivered, measureOf, readOf, writeOf}
+use Rattle.refusal.specs.Delivery.{inNumbers, Delivery, delivered}
+use Rattle.job.specs.Calls.{measureOf, readOf, writeOf}
 use Rattle.job.proofs.Answers.{read-long, read-bad, read-good, write-broken, write-long, write-good}
 
 -- the number of an answer: 0, or the refusal's
-abbrev pub answered : Outcome → ℕ
+abbrev pub answered : Delivery → ℕ
 answered o = getD (o .answer) 0 0
 
 -- rows 9 and 10: the text is too long; a line of it is malformed
@@ -37,7 +38,7 @@ delivered-order xs out =
     by-lt (length out) (length xs) (λ h. rw (lt-leb (length xs) (length out) h, lt-ltb (length out) (length xs) h))
     (λ h. rw (le-leb (length xs) (length out) h, le-ltb (length out) (length xs) h))
 
-pub measure-order : (t : List ℕ) → getD (told (measureOf t)) 0 0 ≡ firstOf (textFaults t)
+pub measure-order : (t : List ℕ) → getD (inNumbers (measureOf t)) 0 0 ≡ firstOf (textFaults t)
 unfolding measureOf firstOf behind
 measure-order t =
     by-lt limit (length t) (λ h. rw (lt-ltb limit (length t) h) (sym (first-here Text (drop 1 (textFaults t)) refl)))

@@ -10,7 +10,7 @@ use Rattle.laws.specs.Bytes.{put}
 use Rattle.laws.proofs.Bytes.{sets-put, rest-is}
 use Rattle.laws.proofs.Append.{sets-append}
 use Rattle.job.specs.Event.{packOf, packedOf}
-use Rattle.job.specs.Text.{firstLine, linesOf, eventOf, wellFormed, lineLength, packedSize, badFrom, firstBad, eventsIn, eventsOf}
+use Rattle.job.specs.Text.{firstLine, linesOf, eventOf, wellSpelled, lineLength, packedSize, badFrom, firstBad, eventsIn, eventsOf}
 use Rattle.job.proofs.FirstLine.{first-some, first-length, lines-first}
 use Rattle.job.proofs.LineLength.{length-good}
 use Rattle.job.proofs.EventText.{good-first, bad-none}
@@ -20,7 +20,7 @@ module _ (t : List ℕ) (at : ℕ) (more : at < length t) (good : firstBad (drop
   some : 0 < length (drop at t)
   some = simp length-drop (omega arith)
 
-  formed : wellFormed (firstLine (drop at t)) ≡ true
+  formed : wellSpelled (firstLine (drop at t)) ≡ true
   unfolding firstBad
   formed = good-first (firstLine (drop at t)) (linesOf (drop (length (firstLine (drop at t))) (drop at t))) 0 (ap (badFrom 1) (sym (lines-first (drop at t) some)) ∙ good) .0
 
@@ -28,8 +28,8 @@ module _ (t : List ℕ) (at : ℕ) (more : at < length t) (good : firstBad (drop
   same-line : firstLine (take (length t - at) (drop at t)) ≡ firstLine (drop at t)
   same-line = ap firstLine (rest-is at t)
 
-  pub next-formed : wellFormed (firstLine (take (length t - at) (drop at t))) ≡ true
-  next-formed = ap wellFormed same-line ∙ formed
+  pub next-formed : wellSpelled (firstLine (take (length t - at) (drop at t))) ≡ true
+  next-formed = ap wellSpelled same-line ∙ formed
 
   module _ (line : ℕ) (is : line ≡ length (firstLine (take (length t - at) (drop at t)))) where
     long : line ≡ length (firstLine (drop at t))

@@ -11,9 +11,10 @@ use borrow.Author.Tests.{ne-eqb}
 use Rattle.laws.proofs.Bytes.{rest-is}
 use Rattle.laws.proofs.Split.{by-bool, by-lt, and-right-false, and-right-true}
 use Rattle.request.specs.Setup.{setupOf, dataLength, fitsOf}
-use Rattle.job.specs.Event.{fits, packOf, same}
+use Rattle.laws.specs.Lists.{same}
+use Rattle.job.specs.Event.{fits, packOf}
 use Rattle.job.specs.Packed.{pieceSize, firstPiece, eventIn, wellPacked, pieceLength}
-use Rattle.job.proofs.FirstLine.{same-refl}
+use Rattle.laws.proofs.Lists.{same-refl}
 use Rattle.job.proofs.Formed.{fits-if, setup-front}
 
 pub piece-good : (u : List ℕ) → wellPacked (firstPiece u) ≡ true → pieceLength u ≡ length (firstPiece u)

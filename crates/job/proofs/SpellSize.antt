@@ -12,7 +12,7 @@ use Rattle.laws.proofs.Bytes.{rest-is}
 use Rattle.laws.proofs.Split.{by-bool, by-lt}
 use Rattle.refusal.specs.declared.Refusal.the-variants.{Request}
 use Rattle.request.proofs.Lengths.{fits-eight}
-use Rattle.job.specs.declared.Done.the-variants.{Bytes, Refused}
+use Rattle.refusal.specs.declared.Done.the-variants.{Bytes, Refused}
 use Rattle.job.specs.Event.{Event, attach, request, fits, lineOf, textOf, packOf}
 use Rattle.job.specs.Text.{limit}
 use Rattle.job.specs.Packed.{pieceSize, firstPiece, piecesAfter, eventIn, wellPacked, pieceLength, lineSize, capped, allPacked, eventsAmong, packs, unpacked}

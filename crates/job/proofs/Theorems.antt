@@ -6,17 +6,19 @@ use Prim.Native.Nat.{ℕ, suc, _≤_}
 use lib.ListN.{length, take}
 use Rattle.laws.specs.Bytes.{put}
 use Rattle.laws.proofs.Append.{take-put}
-use Rattle.hex.specs.Hex.{allBytes}
+use Rattle.laws.specs.Lists.{allBytes}
 use Rattle.refusal.specs.declared.Refusal.the-variants.{Line}
-use Rattle.job.specs.declared.Done.{Done}
-use Rattle.job.specs.declared.Done.the-variants.{Bytes, Refused}
+use Rattle.refusal.specs.declared.Done.{Done}
+use Rattle.refusal.specs.declared.Done.the-variants.{Bytes, Refused}
 use Rattle.job.specs.Event.{Event, proper, textOf, packedOf}
 use Rattle.job.specs.Text.{limit, linesOf, firstBad, eventsOf}
 use Rattle.job.specs.Packed.{unpacked}
-use Rattle.job.specs.Calls.{told, left, measureOf, readOf, writeOf}
+use Rattle.refusal.specs.Delivery.{inNumbers, delivery}
+use Rattle.job.specs.Calls.{measureOf, readOf, writeOf}
 use Rattle.job.proofs.EventText.{text-clean, text-events, good-text, good-proper, Names, named-from-one}
 use Rattle.job.proofs.EventPacked.{packed-packs, packed-events, packs-packed, packs-proper}
-use Rattle.job.proofs.Answers.{told-injective, left-injective, read-bad, read-good, read-bytes, write-good, write-bytes, delivers, never-ten}
+use Rattle.refusal.proofs.Delivery.{numbers-injective, delivery-injective, delivers}
+use Rattle.job.proofs.Answers.{read-bad, read-good, read-bytes, write-good, write-bytes, never-ten}
 
 -- Two lists of proper events with the same text are the same list.
 pub text-of-injective : (es fs : List Event) → proper es ≡ true → proper fs ≡ true → textOf es ≡ textOf fs → es ≡ fs
@@ -35,11 +37,11 @@ pub well-formed-spells : (t : List ℕ) → firstBad t ≡ 0 → (proper (events
 well-formed-spells t h = (good-proper t h, good-text t h)
 
 -- Within the limit, the reader gives 10 where the text is the text of no list of proper events.
-pub refused-if-none : (t out : List ℕ) → length t ≤ limit → ((es : List Event) → proper es ≡ true → textOf es ≡ t → ⊥) → readOf t out ≡ left (Refused (Line (firstBad t))) out
+pub refused-if-none : (t out : List ℕ) → length t ≤ limit → ((es : List Event) → proper es ≡ true → textOf es ≡ t → ⊥) → readOf t out ≡ delivery (Refused (Line (firstBad t))) out
 refused-if-none t out h n = read-bad t out h (λ z. n (eventsOf t) (good-proper t z) (good-text t z))
 
 -- And only there: where the reader gives 10, whatever the line, no list of proper events has this text.
-pub refused-only-if-none : (t out : List ℕ) (k : ℕ) → readOf t out ≡ left (Refused (Line k)) out → (es : List Event) → proper es ≡ true → textOf es ≡ t → ⊥
+pub refused-only-if-none : (t out : List ℕ) (k : ℕ) → readOf t out ≡ delivery (Refused (Line k)) out → (es : List Event) → proper es ≡ true → textOf es ≡ t → ⊥
 refused-only-if-none t out k e es p s = never-ten t out k (events-text-well-formed t es p s) e
 
 -- The line that is named is malformed, and every line before it is well formed. Lines are counted from 1.
@@ -48,7 +50,7 @@ unfolding firstBad
 first-malformed t i e = named-from-one (linesOf t) i e
 
 -- Reading what the writer wrote gives the packed list back, and its length.
-pub reading-what-was-written : (p out back : List ℕ) (n : ℕ) → allBytes p ≡ true → length p ≤ length back → writeOf p out .answer ≡ 0 ∷ n ∷ [] → readOf (take n (writeOf p out .buffer)) back ≡ left (Bytes (length p)) (put 0 p back)
+pub reading-what-was-written : (p out back : List ℕ) (n : ℕ) → allBytes p ≡ true → length p ≤ length back → writeOf p out .answer ≡ 0 ∷ n ∷ [] → readOf (take n (writeOf p out .buffer)) back ≡ delivery (Bytes (length p)) (put 0 p back)
 reading-what-was-written p out back n y room e =
     let w = write-bytes p out n e in
     let q : proper (unpacked p) ≡ true = packs-proper p (w .0) y in
@@ -60,7 +62,7 @@ reading-what-was-written p out back n y room e =
     ∙ delivers (packedOf (eventsOf (textOf (unpacked p)))) p back r room
 
 -- Writing what the reader read gives the text back, and its length.
-pub writing-what-was-read : (t out back : List ℕ) (n : ℕ) → length t ≤ length back → readOf t out .answer ≡ 0 ∷ n ∷ [] → writeOf (take n (readOf t out .buffer)) back ≡ left (Bytes (length t)) (put 0 t back)
+pub writing-what-was-read : (t out back : List ℕ) (n : ℕ) → length t ≤ length back → readOf t out .answer ≡ 0 ∷ n ∷ [] → writeOf (take n (readOf t out .buffer)) back ≡ delivery (Bytes (length t)) (put 0 t back)
 writing-what-was-read t out back n room e =
     let w = read-bytes t out n e in
     let q : proper (eventsOf t) ≡ true = good-proper t (w .1) in
@@ -72,11 +74,11 @@ writing-what-was-read t out back n room e =
     ∙ delivers (textOf (unpacked (packedOf (eventsOf t)))) t back r room
 
 -- Any two outcomes that a promise of `measure`, of the reader or of the writer allows are equal.
-pub one-measure : (t : List ℕ) (r s : Done) → told r ≡ told (measureOf t) → told s ≡ told (measureOf t) → r ≡ s
-one-measure t r s a b = told-injective r s (a ∙ sym b)
+pub one-measure : (t : List ℕ) (r s : Done) → inNumbers r ≡ inNumbers (measureOf t) → inNumbers s ≡ inNumbers (measureOf t) → r ≡ s
+one-measure t r s a b = numbers-injective r s (a ∙ sym b)
 
-pub one-reading : (t out x y : List ℕ) (r s : Done) → left r x ≡ readOf t out → left s y ≡ readOf t out → (r ≡ s) × (x ≡ y)
-one-reading t out x y r s a b = left-injective r s x y (a ∙ sym b)
+pub one-reading : (t out x y : List ℕ) (r s : Done) → delivery r x ≡ readOf t out → delivery s y ≡ readOf t out → (r ≡ s) × (x ≡ y)
+one-reading t out x y r s a b = delivery-injective r s x y (a ∙ sym b)
 
-pub one-writing : (p out x y : List ℕ) (r s : Done) → left r x ≡ writeOf p out → left s y ≡ writeOf p out → (r ≡ s) × (x ≡ y)
-one-writing p out x y r s a b = left-injective r s x y (a ∙ sym b)
+pub one-writing : (p out x y : List ℕ) (r s : Done) → delivery r x ≡ writeOf p out → delivery s y ≡ writeOf p out → (r ≡ s) × (x ≡ y)
+one-writing p out x y r s a b = delivery-injective r s x y (a ∙ sym b)

@@ -14,10 +14,10 @@ use Rattle.hex.specs.Hex.{hexOf, allDigits, bytesOf}
 use Rattle.hex.proofs.Fields.{bytes-hex, digits-hex}
 use Rattle.job.specs.declared.Item.the-variants as item
 use Rattle.job.specs.Event.{Event, attach, request, fits, inBytes, proper, lineOf, textOf}
-use Rattle.job.specs.Text.{firstLine, wellFormed}
+use Rattle.job.specs.Text.{firstLine, wellSpelled}
 use Rattle.job.specs.Calls.{itemFor, itemOf}
 use Rattle.job.proofs.Spelling.{spelled, spelled-facts}
-use Rattle.job.proofs.Formed.{bytes-drop}
+use Rattle.laws.proofs.Lists.{bytes-drop}
 use Rattle.job.proofs.SpellSize.{line-length-of}
 use Rattle.job.proofs.EventText.{line-event, line-formed, line-first, line-some, proper-parts}
 
@@ -86,13 +86,13 @@ item-last t at is =
     rw (le-leb (length t) at (let h : length t ≤ at = omega arith in h))
 
 -- while there is text, its first line is well formed
-pub formed-here : (t : List ℕ) (at : ℕ) (es : List Event) → drop at t ≡ textOf es → proper es ≡ true → at < length t → wellFormed (firstLine (drop at t)) ≡ true
+pub formed-here : (t : List ℕ) (at : ℕ) (es : List Event) → drop at t ≡ textOf es → proper es ≡ true → at < length t → wellSpelled (firstLine (drop at t)) ≡ true
 unfolding textOf
 formed-here t at [] is ok h =
     let l : length (drop at t) ≡ 0 = ap length is in
     let d : length (drop at t) ≡ length t - at = length-drop at t in
     absurd (omega arith)
-formed-here t at (e ∷ es) is ok h = let p = proper-parts e es ok in ap wellFormed (first t at e es is ok) ∙ line-formed e (p .0) (p .1)
+formed-here t at (e ∷ es) is ok h = let p = proper-parts e es ok in ap wellSpelled (first t at e es is ok) ∙ line-formed e (p .0) (p .1)
 
 -- what each item tells of the events that the text goes on with
 pub end-tells : (t : List ℕ) (at : ℕ) (es : List Event) → drop at t ≡ textOf es → proper es ≡ true → itemOf t at ≡ item.End → es ≡ []

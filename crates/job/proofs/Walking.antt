@@ -14,23 +14,23 @@ use Rattle.request.specs.Setup.{setupOf}
 use Rattle.request.specs.declared.Setup.{Setup}
 use Rattle.hex.specs.Hex.{allDigits, bytesOf}
 use Rattle.refusal.specs.declared.Refusal.the-variants.{Text, Line}
-use Rattle.job.specs.declared.Done.the-variants.{Bytes, Refused}
+use Rattle.refusal.specs.declared.Done.the-variants.{Bytes, Refused}
 use Rattle.job.specs.declared.Item.the-variants as item
 use Rattle.job.specs.Event.{Event, attach, request, packOf, packedOf}
-use Rattle.job.specs.Text.{limit, firstLine, linesOf, eventOf, wellFormed, lineLength, packedSize, badFrom, firstBad, eventsIn, eventsOf}
+use Rattle.job.specs.Text.{limit, firstLine, linesOf, eventOf, wellSpelled, lineLength, packedSize, badFrom, firstBad, eventsIn, eventsOf}
 use Rattle.job.specs.Calls.{measureOf, itemFor, itemOf}
 use Rattle.job.proofs.FirstLine.{first-some, lines-first}
 use Rattle.job.proofs.Formed.{Asks, asks, asks-event, asks-length, asks-setup, asks-digits, setup-front}
 use Rattle.job.proofs.LineLength.{length-good, length-bad, Attaches, attaches}
 
 -- a length that is not 0 is that of a well-formed line
-formed-if : (u : List ℕ) → (lineLength u ≡ 0 → ⊥) → wellFormed (firstLine u) ≡ true
-formed-if u n = by-bool (wellFormed (firstLine u)) (λ h. h) (λ h. absurd (n (sym (length-bad u h))))
+formed-if : (u : List ℕ) → (lineLength u ≡ 0 → ⊥) → wellSpelled (firstLine u) ≡ true
+formed-if u n = by-bool (wellSpelled (firstLine u)) (λ h. h) (λ h. absurd (n (sym (length-bad u h))))
 
 -- and a length of 0 that of a malformed one
-malformed-if : (u : List ℕ) → 0 < length u → lineLength u ≡ 0 → wellFormed (firstLine u) ≡ false
+malformed-if : (u : List ℕ) → 0 < length u → lineLength u ≡ 0 → wellSpelled (firstLine u) ≡ false
 malformed-if u s z =
-    by-bool (wellFormed (firstLine u))
+    by-bool (wellSpelled (firstLine u))
     (λ h. let l : lineLength u ≡ length (firstLine u) = length-good u h in let w = first-some u s in absurd (omega arith))
     (λ h. h)
 
@@ -39,14 +39,14 @@ pub setup-here : (t : List ℕ) (at : ℕ) → take (at + 18 - (at + 2)) (drop (
 setup-here t at = let n : at + 18 - (at + 2) ≡ 16 = omega arith in ap₂ take n (sym (drop-drop 2 at t))
 
 -- by its length a line is of `A` or of `Q`
-short-attaches : (u : List ℕ) → wellFormed (firstLine u) ≡ true → length (firstLine u) < 20 → Attaches u
+short-attaches : (u : List ℕ) → wellSpelled (firstLine u) ≡ true → length (firstLine u) < 20 → Attaches u
 short-attaches u h l = by-eq (getD u 0 0) 65 (attaches u h) (λ n. let x = asks u h n in let s = asks-length x in absurd (omega arith))
 
-long-asks : (u : List ℕ) → wellFormed (firstLine u) ≡ true → 20 ≤ length (firstLine u) → Asks u
+long-asks : (u : List ℕ) → wellSpelled (firstLine u) ≡ true → 20 ≤ length (firstLine u) → Asks u
 long-asks u h l = by-eq (getD u 0 0) 65 (λ k. let s = ap length (attaches u h k .first) in absurd (omega arith)) (asks u h)
 
 -- how many bytes the event of the first line packs into
-pub size-packed : (u : List ℕ) → wellFormed (firstLine u) ≡ true → length (packOf (eventOf (firstLine u))) ≡ packedSize (length (firstLine u))
+pub size-packed : (u : List ℕ) → wellSpelled (firstLine u) ≡ true → length (packOf (eventOf (firstLine u))) ≡ packedSize (length (firstLine u))
 unfolding packedSize packOf
 size-packed u h =
     by-lt (length (firstLine u)) 20
@@ -78,7 +78,7 @@ module _ (t : List ℕ) (at line : ℕ) (more : at < length t) (is : line ≡ li
 
   -- a turn at a well-formed line
   module _ (nonzero : line ≡ 0 → ⊥) where
-    formed : wellFormed (firstLine (drop at t)) ≡ true
+    formed : wellSpelled (firstLine (drop at t)) ≡ true
     formed = formed-if (drop at t) (λ z. nonzero (left-is ∙ z))
 
     line-is : line ≡ length (firstLine (drop at t))

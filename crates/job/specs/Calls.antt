@@ -6,33 +6,16 @@ use lib.Dec.{eqb, ltb, leb}
 use lib.ListN.{length, drop}
 use Rattle.laws.specs.Bytes.{put}
 use Rattle.refusal.specs.declared.Refusal.the-variants.{Text, Line, Output, Request}
-use Rattle.refusal.specs.Refusal.{numberOf, lineOf}
+use Rattle.refusal.specs.Refusal.{numberOf, lineNamed}
 use Rattle.request.specs.Setup.{setupOf}
-use Rattle.job.specs.declared.Done.{Done}
-use Rattle.job.specs.declared.Done.the-variants.{Bytes, Refused}
+use Rattle.refusal.specs.declared.Done.{Done}
+use Rattle.refusal.specs.declared.Done.the-variants.{Bytes, Refused}
+use Rattle.refusal.specs.Delivery.{Delivery, delivery, delivered}
 use Rattle.job.specs.declared.Item.{Item}
 use Rattle.job.specs.declared.Item.the-variants as item
 use Rattle.job.specs.Event.{Event, attach, request, textOf, packedOf}
-use Rattle.job.specs.Text.{limit, dataFrom, firstLine, eventOf, wellFormed, firstBad, eventsOf}
+use Rattle.job.specs.Text.{limit, dataFrom, firstLine, eventOf, wellSpelled, firstBad, eventsOf}
 use Rattle.job.specs.Packed.{capped, packs, unpacked}
-
--- an answer in numbers: 0 and how many bytes; or the refusal's number and the line that it names
-abbrev pub told : Done → List ℕ
-told (Bytes n) = 0 ∷ n ∷ []
-told (Refused r) = numberOf r ∷ lineOf r ∷ []
-
--- an answer in numbers, and the lent buffer after the call
-pub record Outcome : Type 0 where
-  pub answer : List ℕ
-  pub buffer : List ℕ
-
--- what a function returned, and left in the buffer
-abbrev pub left : Done → List ℕ → Outcome
-left r out = record { answer = told r; buffer = out }
-
--- row 11, "11 comes last"; "An output buffer keeps its bytes past the output"
-unfoldable pub delivered : List ℕ → List ℕ → Outcome
-delivered xs out = cond (leb (length xs) (length out)) (left (Bytes (length xs)) (put 0 xs out)) (left (Refused Output) out)
 
 -- rows 9 and 10, and how many packed bytes the text's events take
 unfoldable pub measureOf : List ℕ → Done
@@ -41,12 +24,12 @@ measureOf t =
     (cond (eqb (firstBad t) 0) (Bytes (length (packedOf (eventsOf t)))) (Refused (Line (firstBad t))))
 
 -- by what `measure` answers for the text; "A refusal leaves state and every buffer unchanged"
-abbrev pub reads : Done → List ℕ → List ℕ → Outcome
+abbrev pub reads : Done → List ℕ → List ℕ → Delivery
 reads (Bytes size) t out = delivered (packedOf (eventsOf t)) out
-reads (Refused r) t out = left (Refused r) out
+reads (Refused r) t out = delivery (Refused r) out
 
 -- the reader: rows 9, 10, 11
-unfoldable pub readOf : List ℕ → List ℕ → Outcome
+unfoldable pub readOf : List ℕ → List ℕ → Delivery
 readOf t out = reads (measureOf t) t out
 
 -- 5, and how long the text of a packed list is
@@ -54,11 +37,11 @@ unfoldable pub sizeOf : List ℕ → Done
 sizeOf p = cond (packs p) (Bytes (capped (length (textOf (unpacked p))))) (Refused Request)
 
 -- the text writer: 5 "before 9 and 11"
-unfoldable pub writeOf : List ℕ → List ℕ → Outcome
+unfoldable pub writeOf : List ℕ → List ℕ → Delivery
 writeOf p out =
     cond (packs p)
-    (cond (ltb limit (length (textOf (unpacked p)))) (left (Refused Text) out) (delivered (textOf (unpacked p)) out))
-    (left (Refused Request) out)
+    (cond (ltb limit (length (textOf (unpacked p)))) (delivery (Refused Text) out) (delivered (textOf (unpacked p)) out))
+    (delivery (Refused Request) out)
 
 -- what stands at a place of a text: n is the length of its line
 unfoldable pub itemFor : ℕ → ℕ → Event → Item
@@ -69,4 +52,4 @@ itemFor at n (request q) = item.Request (setupOf q) (at + dataFrom) (at + n)
 unfoldable pub itemOf : List ℕ → ℕ → Item
 itemOf t at =
     cond (leb (length t) at) item.End
-    (cond (wellFormed (firstLine (drop at t))) (itemFor at (length (firstLine (drop at t))) (eventOf (firstLine (drop at t)))) item.Bad)
+    (cond (wellSpelled (firstLine (drop at t))) (itemFor at (length (firstLine (drop at t))) (eventOf (firstLine (drop at t)))) item.Bad)

@@ -5,7 +5,8 @@ use Prim.Native.Nat.{ℕ}
 use lib.Dec.{eqb}
 use lib.ListN.{take, drop}
 use Rattle.request.specs.Setup.{fitsOf}
-use Rattle.hex.specs.Hex.{hexOf, allBytes}
+use Rattle.laws.specs.Lists.{allBytes}
+use Rattle.hex.specs.Hex.{hexOf}
 
 -- "An event is Attach or a request": the request with its setup and its data
 pub data Event : Type 0 where
@@ -46,10 +47,3 @@ packOf (request q) = 1 ∷ q
 unfoldable pub packedOf : List Event → List ℕ
 packedOf [] = []
 packedOf (e ∷ es) = packOf e ++ packedOf es
-
--- two lists of bytes are the same
-unfoldable pub same : List ℕ → List ℕ → Bool
-same [] [] = true
-same [] (y ∷ ys) = false
-same (x ∷ xs) [] = false
-same (x ∷ xs) (y ∷ ys) = eqb x y && same xs ys

@@ -5,7 +5,8 @@ use Prim.Native.Nat.{ℕ, zero, suc, _+_, _-_, _*_}
 use lib.Dec.{eqb, ltb}
 use lib.ListN.{length, take, drop, getD}
 use Rattle.request.specs.Setup.{setupOf, dataLength}
-use Rattle.job.specs.Event.{Event, attach, request, fits, packOf, same}
+use Rattle.laws.specs.Lists.{same}
+use Rattle.job.specs.Event.{Event, attach, request, fits, packOf}
 use Rattle.job.specs.Text.{limit}
 
 -- how many bytes the event at the front of a packed list asks for: "whose length follows from the setup"

@@ -5,7 +5,8 @@ use Prim.Native.Nat.{ℕ, suc, _-_, _/_}
 use lib.Dec.{eqb, ltb}
 use lib.ListN.{length, take, drop, getD}
 use Rattle.hex.specs.Hex.{bytesOf}
-use Rattle.job.specs.Event.{Event, attach, request, fits, lineOf, same}
+use Rattle.laws.specs.Lists.{same}
+use Rattle.job.specs.Event.{Event, attach, request, fits, lineOf}
 
 -- "At most 60,000 bytes"
 abbrev pub limit : ℕ
@@ -35,12 +36,12 @@ unfoldable pub eventOf : List ℕ → Event
 eventOf l = cond (eqb (getD l 0 0) 65) attach (request (bytesOf (take 16 (drop 2 l)) ++ bytesOf (take (length l - 20) (drop dataFrom l))))
 
 -- a line is well formed where it is the line of the event that it spells, and "the data must have the length the event rule asks"
-unfoldable pub wellFormed : List ℕ → Bool
-wellFormed l = fits (eventOf l) && same l (lineOf (eventOf l))
+unfoldable pub wellSpelled : List ℕ → Bool
+wellSpelled l = fits (eventOf l) && same l (lineOf (eventOf l))
 
 -- how long the first line of a text is; 0 where it is malformed
 unfoldable pub lineLength : List ℕ → ℕ
-lineLength t = cond (wellFormed (firstLine t)) (length (firstLine t)) 0
+lineLength t = cond (wellSpelled (firstLine t)) (length (firstLine t)) 0
 
 -- how many packed bytes the event of a well-formed line of n bytes takes
 unfoldable pub packedSize : ℕ → ℕ
@@ -49,7 +50,7 @@ packedSize n = cond (ltb n 20) 1 (n / 2 - 1)
 -- row 10: of lines that are counted from k on, the number of the first malformed one; 0 where there is none
 unfoldable pub badFrom : ℕ → List (List ℕ) → ℕ
 badFrom k [] = 0
-badFrom k (l ∷ ls) = cond (wellFormed l) (badFrom (suc k) ls) k
+badFrom k (l ∷ ls) = cond (wellSpelled l) (badFrom (suc k) ls) k
 
 -- row 10: "the first one's number, from 1"
 unfoldable pub firstBad : List ℕ → ℕ

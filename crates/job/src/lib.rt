@@ -1,4 +1,5 @@
 // The job text: read into packed events, written from them, and walked in place.
+use refusal::Done;
 use refusal::Refusal;
 use request::Setup;
 ghost use mathlib.Core.Path.{_≡_};
@@ -9,15 +10,10 @@ ghost use Rattle.laws.specs.Bytes.{put};
 ghost use Rattle.request.specs.Setup.{setupOf, dataLength};
 ghost use Rattle.hex.specs.Hex.{valueOf, byteOf, allDigits, bytesOf};
 ghost use Rattle.job.specs.Event.{request, lineOf, textOf, packOf, packedOf};
-ghost use Rattle.job.specs.Text.{limit, firstLine, eventOf, wellFormed, lineLength, packedSize, firstBad, eventsOf};
+ghost use Rattle.job.specs.Text.{limit, firstLine, eventOf, wellSpelled, lineLength, packedSize, firstBad, eventsOf};
 ghost use Rattle.job.specs.Packed.{pieceLength, lineSize, capped, eventIn, wellPacked, packs, unpacked};
-ghost use Rattle.job.specs.Calls.{told, left, measureOf, readOf, sizeOf, writeOf, itemOf};
-
-// A call's answer: how many bytes, or why none.
-pub enum Done {
-    Bytes(usize),
-    Refused(Refusal),
-}
+ghost use Rattle.refusal.specs.Delivery.{inNumbers, delivery};
+ghost use Rattle.job.specs.Calls.{measureOf, readOf, sizeOf, writeOf, itemOf};
 
 // What stands at a place of a text: its end, a malformed line, or an event with the place of the line after it.
 pub enum Item {
@@ -188,7 +184,7 @@ pub fn item_at(text: &[u8], at: usize) -> Item
 
 // The event at a place where the text is known to be well formed. A text that was measured before needs no second look at each digit.
 pub fn event_at(text: &[u8], at: usize) -> Item
-    requires { ⌜ (at < length (now text)) × (wellFormed (firstLine (drop at (now text))) ≡ true) ⌝ }
+    requires { ⌜ (at < length (now text)) × (wellSpelled (firstLine (drop at (now text))) ≡ true) ⌝ }
     ensures { λ r. ⌜ r ≡ itemOf (now (text .entry)) at ⌝ }
 {
     if text[at] == b'A' {
@@ -226,7 +222,7 @@ fn scan(text: &[u8]) -> Done
 
 // How many bytes the text's events take when packed, or why the text is none.
 pub fn measure(text: &[u8]) -> Done
-    ensures { λ r. ⌜ told r ≡ told (measureOf (now (text .entry))) ⌝ }
+    ensures { λ r. ⌜ inNumbers r ≡ inNumbers (measureOf (now (text .entry))) ⌝ }
 {
     if LIMIT < text.len() {
         return Done::Refused(Refusal::Text);
@@ -236,7 +232,7 @@ pub fn measure(text: &[u8]) -> Done
 
 // Packs the request at the front of `rest` into `out` from place `at` on, and gives the length of its line.
 fn pack_request(rest: &[u8], out: &mut [u8], at: usize) -> usize
-    requires { ⌜ (wellFormed (firstLine (now rest)) ≡ true) × (getD (now rest) 0 0 ≡ 65 → ⊥) × (at + length (packOf (eventOf (firstLine (now rest)))) ≤ length (now out)) ⌝ }
+    requires { ⌜ (wellSpelled (firstLine (now rest)) ≡ true) × (getD (now rest) 0 0 ≡ 65 → ⊥) × (at + length (packOf (eventOf (firstLine (now rest)))) ≤ length (now out)) ⌝ }
     ensures { λ r. ⌜ (now (out .exit) ≡ put at (packOf (eventOf (firstLine (now (rest .entry))))) (now (out .entry))) × (r ≡ length (firstLine (now (rest .entry)))) ⌝ }
 {
     out[at] = 1;
@@ -249,7 +245,7 @@ fn pack_request(rest: &[u8], out: &mut [u8], at: usize) -> usize
 
 // Packs the event at the front of `rest` into `out` from place `at` on, and gives the length of its line.
 fn pack_line(rest: &[u8], out: &mut [u8], at: usize) -> usize
-    requires { ⌜ (wellFormed (firstLine (now rest)) ≡ true) × (at + length (packOf (eventOf (firstLine (now rest)))) ≤ length (now out)) ⌝ }
+    requires { ⌜ (wellSpelled (firstLine (now rest)) ≡ true) × (at + length (packOf (eventOf (firstLine (now rest)))) ≤ length (now out)) ⌝ }
     ensures { λ r. ⌜ (now (out .exit) ≡ put at (packOf (eventOf (firstLine (now (rest .entry))))) (now (out .entry))) × (r ≡ length (firstLine (now (rest .entry)))) ⌝ }
 {
     if buffer::byte_at(rest, 0) == b'A' {
@@ -275,7 +271,7 @@ fn pack(text: &[u8], out: &mut [u8])
 
 // Reads a text: its events go to the front of `out`, packed.
 pub fn read(text: &[u8], out: &mut [u8]) -> Done
-    ensures { λ r. ⌜ left r (now (out .exit)) ≡ readOf (now (text .entry)) (now (out .entry)) ⌝ }
+    ensures { λ r. ⌜ delivery r (now (out .exit)) ≡ readOf (now (text .entry)) (now (out .entry)) ⌝ }
 {
     let measured = measure(text);
     match measured {
@@ -402,7 +398,7 @@ fn spell(packed: &[u8], out: &mut [u8])
 
 // Writes a packed list's text to the front of `out`.
 pub fn write(packed: &[u8], out: &mut [u8]) -> Done
-    ensures { λ r. ⌜ left r (now (out .exit)) ≡ writeOf (now (packed .entry)) (now (out .entry)) ⌝ }
+    ensures { λ r. ⌜ delivery r (now (out .exit)) ≡ writeOf (now (packed .entry)) (now (out .entry)) ⌝ }
 {
     let sized = spelled_size(packed);
     match sized {

@@ -6,7 +6,7 @@ use Prim.Native.Nat.{ℕ, zero, suc, _+_, _<_}
 use native.Mathlib.Nat.{add-zero, zero-add, add-suc, suc-add, le-of-suc-le-suc, not-suc-le-zero}
 use lib.Dec.{T}
 use lib.ListN.{length, getD}
-use Rattle.laws.specs.Table.{every, same}
+use Rattle.laws.specs.Table.{every, agree}
 
 pub and-left : (a b : Bool) → T (a && b) → T a
 and-left true b t = tt
@@ -27,8 +27,8 @@ module _ {A : Type 0} (test : ℕ → A → Bool) (d : A) where
   pub every-at : (xs : List A) → T (every test 0 xs) → (k : ℕ) → k < length xs → T (test k (getD xs k d))
   every-at xs t k h = subst (λ (m : ℕ). T (test m (getD xs k d))) (zero-add k) (from xs 0 t k h)
 
-pub same-eq : (a b : Bool) → T (same a b) → a ≡ b
-same-eq true true t = refl
-same-eq true false t = absurd t
-same-eq false true t = absurd t
-same-eq false false t = refl
+pub agree-eq : (a b : Bool) → T (agree a b) → a ≡ b
+agree-eq true true t = refl
+agree-eq true false t = absurd t
+agree-eq false true t = absurd t
+agree-eq false false t = refl

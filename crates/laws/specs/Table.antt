@@ -8,8 +8,8 @@ abbrev pub every : {A : Type 0} → (ℕ → A → Bool) → ℕ → List A → 
 every test i [] = true
 every test i (x ∷ xs) = test i x && every test (suc i) xs
 
--- two truth values are the same
-abbrev pub same : Bool → Bool → Bool
-same true b = b
-same false true = false
-same false false = true
+-- two truth values are the agree
+abbrev pub agree : Bool → Bool → Bool
+agree true b = b
+agree false true = false
+agree false false = true

@@ -17,8 +17,8 @@ use Rattle.device.specs.WellFormed.{wellFormed}
 use Rattle.loader.specs.declared.Event.{Event}
 use Rattle.loader.specs.declared.Event.the-variants as event
 use Rattle.loader.specs.declared.Answer.the-variants.{Accepted}
-use Rattle.loader.specs.declared.Admission.{Admission}
-use Rattle.loader.specs.declared.Admission.the-variants as admission
+use Rattle.refusal.specs.declared.Admission.{Admission}
+use Rattle.refusal.specs.declared.Admission.the-variants as admission
 use Rattle.loader.specs.Answer.{outcome}
 use Rattle.loader.specs.Serve.{InOrder, serveOf}
 use Rattle.loader.specs.Step.{sizesOf, admittedOf, steps, stepOf}

@@ -24,9 +24,9 @@ use Rattle.device.specs.WellFormed.{inRegion, writeFits, pendingFits, statusFit
 use Rattle.action.specs.declared.Access.{Access}
 use Rattle.action.specs.declared.Access.the-variants.{Denied, InFlash, InRam, InOptions}
 use Rattle.action.specs.declared.Action.{Action}
-use Rattle.action.specs.Access.{accessOf, blockAddress}
+use Rattle.action.specs.Access.{blockAccess}
 use Rattle.action.specs.Action.{pointOf, eraseAt, eraseOf, storeAt, actionIn, actionOf}
-use Rattle.action.proofs.Spans.{Granted, access-granted}
+use Rattle.action.proofs.Spans.{Granted, block-granted}
 use Rattle.loader.specs.Perform.{endOf, countOf}
 
 -- an action that ends within memory and takes no more than a transfer
@@ -74,8 +74,7 @@ action-in-fits n protected pointer mode (ErasePage address) e = erase-fits n pro
 action-in-fits n protected pointer mode MassErase e = mass-fits n protected pointer
 action-in-fits n protected pointer mode ReadUnprotect e = unprotect-fits n protected pointer
 action-in-fits n protected pointer mode (Write block count) e =
-    let a = blockAddress block count pointer in
-    store-fits n count (accessOf n protected a count) (access-granted n protected a count) (write-short mode block count e)
+    store-fits n count (blockAccess n protected block count pointer) (block-granted n protected block count pointer) (write-short mode block count e)
 
 pub action-fits : (n : ℕ) (protected : Bool) (d : Device) → wellFormed n d ≡ true → Fits n (actionOf n protected d)
 unfolding wellFormed actionOf

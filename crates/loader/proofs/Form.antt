@@ -30,15 +30,16 @@ use Rattle.action.specs.declared.Access.{Access}
 use Rattle.action.specs.declared.Access.the-variants.{Denied, InFlash, InRam, InOptions}
 use Rattle.action.specs.declared.Action.{Action}
 use Rattle.action.specs.declared.Action.the-variants.{Rest, Fail, Point, Erase, EraseAll, Unprotect, ClearRam, StoreFlash, StoreRam, StoreOptions}
-use Rattle.action.specs.Access.{checkedOf, accessOf, blockAddress}
+use Rattle.action.specs.Access.{blockAccess}
+use Rattle.action.proofs.Denials.{Refusing, block-refusing}
 use Rattle.action.specs.Action.{pointOf, eraseAt, storeAt, actionIn, actionOf, movedOf, ranOf}
 use Rattle.memory.specs.Flash.{blank}
 use Rattle.loader.specs.declared.Event.{Event}
 use Rattle.loader.specs.declared.Event.the-variants as event
-use Rattle.loader.specs.declared.Admission.{Admission}
-use Rattle.loader.specs.declared.Admission.the-variants as admission
+use Rattle.refusal.specs.declared.Admission.{Admission}
+use Rattle.refusal.specs.declared.Admission.the-variants as admission
 use Rattle.loader.specs.Perform.{performedOf}
-use Rattle.loader.specs.Serve.{runOf, statusOf, readAt, readOf, actedOf, serveOf}
+use Rattle.loader.specs.Serve.{runOf, statusOf, readAt, uploadedOf, actedOf, serveOf}
 use Rattle.loader.specs.Step.{sizesOf, admittedOf, steps, stepOf}
 
 -- an action whose own status is one of the error mode's, and whose pointer lies in a region
@@ -53,23 +54,6 @@ Proper n ClearRam = T true
 Proper n (StoreFlash at count) = T true
 Proper n (StoreRam at count) = T true
 Proper n (StoreOptions at count) = T true
-
-abbrev Refusing : Access → Type 0
-Refusing (Denied status) = statusFits Error status ≡ true
-Refusing (InFlash at) = T true
-Refusing (InRam at) = T true
-Refusing (InOptions at) = T true
-
-checked-refusing : (n count : ℕ) (place : Place) → Refusing (checkedOf n count place)
-checked-refusing n count (Flash at) = by-bool (ltb count 2) (λ e. rw e refl) (λ e. rw e tt)
-checked-refusing n count (Ram at) = by-bool (ltb count 2) (λ e. rw e refl) (λ e. rw e tt)
-checked-refusing n count (Options at) = by-bool (eqb at (optionsFrom n) && eqb count optionBytes) (λ e. rw e tt) (λ e. rw e refl)
-checked-refusing n count Outside = refl
-
-access-refusing : (n : ℕ) (protected : Bool) (address count : ℕ) → Refusing (accessOf n protected address count)
-unfolding accessOf
-access-refusing n true address count = refl
-access-refusing n false address count = checked-refusing n count (placeOf n address count)
 
 store-proper : (n count : ℕ) (access : Access) → Refusing access → Proper n (storeAt access count)
 store-proper n count (Denied status) r = r
@@ -96,8 +80,7 @@ action-proper n false pointer MassErase = tt
 action-proper n true pointer ReadUnprotect = tt
 action-proper n false pointer ReadUnprotect = tt
 action-proper n protected pointer (Write block count) =
-    let a = blockAddress block count pointer in
-    store-proper n count (accessOf n protected a count) (access-refusing n protected a count)
+    store-proper n count (blockAccess n protected block count pointer) (block-refusing n protected block count pointer)
 
 -- what running an action comes to
 module _ (n pointer : ℕ) (b m : List ℕ) (p : inRegion n pointer ≡ true) where
@@ -137,7 +120,7 @@ module _ (n : ℕ) (d : Device) (m b y : List ℕ) (f : Form n d) where
   read-at-form (InOptions at) count r c = entered-form n d f UploadIdle c (record { sync = refl; error = refl })
 
   acted-form : (decision : Decision) (q : List ℕ) → Formed n d decision → Form n (actedOf decision n d q m b y .device)
-  unfolding readOf
+  unfolding uploadedOf
   acted-form decided.Silent q h = f
   acted-form (decided.Stall next) q h = h
   acted-form (decided.Accept next) q h = h
@@ -145,8 +128,7 @@ module _ (n : ℕ) (d : Device) (m b y : List ℕ) (f : Form n d) where
   acted-form (decided.Commands next count) q h = h
   acted-form decided.Read q h =
       let s = setupOf q in
-      let a = blockAddress (s .value) (s .length) (d .pointer) in
-      read-at-form (accessOf n (readProtected n m) a (s .length)) (s .length) (access-refusing n (readProtected n m) a (s .length)) h
+      read-at-form (blockAccess n (readProtected n m) (s .value) (s .length) (d .pointer)) (s .length) (block-refusing n (readProtected n m) (s .value) (s .length) (d .pointer)) h
   acted-form decided.State q h = f
   acted-form decided.Status q h = status-form
 

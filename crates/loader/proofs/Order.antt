@@ -17,8 +17,8 @@ use Rattle.device.specs.WellFormed.{wellFormed}
 use Rattle.loader.specs.declared.Event.{Event}
 use Rattle.loader.specs.declared.Event.the-variants as event
 use Rattle.loader.specs.declared.Sizes.{Sizes}
-use Rattle.loader.specs.declared.Admission.{Admission}
-use Rattle.loader.specs.declared.Admission.the-variants as admission
+use Rattle.refusal.specs.declared.Admission.{Admission}
+use Rattle.refusal.specs.declared.Admission.the-variants as admission
 use Rattle.loader.specs.Faults.{misfits, faultsOf}
 use Rattle.loader.specs.Step.{admittedIn, admittedOf}
 

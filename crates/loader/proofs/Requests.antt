@@ -1,4 +1,4 @@
--- Laws of `runOf`, `statusOf`, `readOf` and `serveOf`, in the terms in which the code meets them. Assumes nothing.
+-- Laws of `runOf`, `statusOf`, `uploadedOf` and `serveOf`, in the terms in which the code meets them. Assumes nothing.
 use mathlib.Core.Path.{_≡_, ap, _∙_}
 use mathlib.Core.Bool.{Bool, true, false}
 use mathlib.Core.List.{List}
@@ -16,7 +16,7 @@ use Rattle.device.specs.declared.Device.{Device}
 use Rattle.device.specs.declared.Ran.{Ran}
 use Rattle.device.specs.declared.Report.{Report}
 use Rattle.device.specs.Wire.{isMode}
-use Rattle.device.specs.State.{afterStatus, reportOf}
+use Rattle.device.specs.State.{afterStatus, reportOf, nothingRan}
 use Rattle.decision.specs.declared.Command.{Command}
 use Rattle.decision.specs.declared.Decision.{Decision}
 use Rattle.decision.specs.declared.Decision.the-variants.{Read}
@@ -24,16 +24,16 @@ use Rattle.decision.specs.Decide.{commandOf, decideOf}
 use Rattle.decision.proofs.Bounds.{Bounded, decide-bounded}
 use Rattle.action.specs.declared.Access.{Access}
 use Rattle.action.specs.declared.Action.{Action}
-use Rattle.action.specs.Access.{accessOf, blockAddress}
+use Rattle.action.specs.Access.{blockAccess}
 use Rattle.action.specs.Action.{actionOf, ranOf}
-use Rattle.action.proofs.Spans.{Granted, access-granted}
+use Rattle.action.proofs.Spans.{Granted, block-granted}
 use Rattle.loader.specs.declared.Answer.the-variants.{Reply}
 use Rattle.loader.specs.Answer.{outcome}
 use Rattle.loader.specs.Perform.{Performed, performed, performedOf}
-use Rattle.loader.specs.Serve.{Run, run, runOf, statusBytes, reported, statusOf, readAt, readOf, actedOf, serveOf}
+use Rattle.loader.specs.Serve.{Run, run, runOf, statusBytes, reported, statusOf, readAt, uploadedOf, actedOf, serveOf}
 
 -- nothing runs outside mode 3
-pub run-rests : (n : ℕ) (d : Device) (b m : List ℕ) → isMode 3 (d .mode) ≡ false → run (record { status = 0; pointer = d .pointer; reboots = false }) m ≡ runOf n d b m
+pub run-rests : (n : ℕ) (d : Device) (b m : List ℕ) → isMode 3 (d .mode) ≡ false → run (nothingRan d) m ≡ runOf n d b m
 unfolding runOf
 run-rests n d b m h = rw h
 
@@ -48,12 +48,12 @@ unfolding statusOf
 status-is n d d′ m m′ b y y′ ran report r t w s = rw (w, t, s) (ap (λ (x : Run). reported x d b y) r)
 
 -- x is the access that was found
-pub read-is : (n : ℕ) (d : Device) (s : Setup) (m b y : List ℕ) (protected : Bool) (address : ℕ) (access x : Access) → protected ≡ readProtected n m → address ≡ blockAddress (s .value) (s .length) (d .pointer) → access ≡ accessOf n protected address (s .length) → access ≡ x → readAt x (s .length) d m b y ≡ readOf n d s m b y
-unfolding readOf
-read-is n d s m b y protected address access x p a e t = rw (← t, e, a, p)
+pub read-is : (n : ℕ) (d : Device) (s : Setup) (m b y : List ℕ) (protected : Bool) (access x : Access) → protected ≡ readProtected n m → access ≡ blockAccess n protected (s .value) (s .length) (d .pointer) → access ≡ x → readAt x (s .length) d m b y ≡ uploadedOf n d s m b y
+unfolding uploadedOf
+read-is n d s m b y protected access x p e t = rw (← t, e, p)
 
-pub read-granted : (n : ℕ) (protected : Bool) (address count : ℕ) (access x : Access) → access ≡ accessOf n protected address count → access ≡ x → Granted n count x
-read-granted n protected address count access x e t = rw (← t, e) (access-granted n protected address count)
+pub read-granted : (n : ℕ) (protected : Bool) (block count pointer : ℕ) (access x : Access) → access ≡ blockAccess n protected block count pointer → access ≡ x → Granted n count x
+read-granted n protected block count pointer access x e t = rw (← t, e) (block-granted n protected block count pointer)
 
 -- x is the decision that was made
 module _ (n : ℕ) (d : Device) (q m b y : List ℕ) (setup : Setup) (command : Command) (decision x : Decision) where
@@ -62,9 +62,9 @@ module _ (n : ℕ) (d : Device) (q m b y : List ℕ) (setup : Setup) (command : 
   serve-is s k e t = rw (← t, e, k, s, rest-is 8 q)
 
 -- memory is read by the setup that was taken from the request
-pub serve-reads : (n : ℕ) (d : Device) (q m b y : List ℕ) (setup : Setup) (command : Command) (decision : Decision) → setup ≡ setupOf q → command ≡ commandOf (take (length q - 8) (drop 8 q)) → decision ≡ decideOf d setup command → decision ≡ Read → readOf n d setup m b y ≡ serveOf n d q m b y
+pub serve-reads : (n : ℕ) (d : Device) (q m b y : List ℕ) (setup : Setup) (command : Command) (decision : Decision) → setup ≡ setupOf q → command ≡ commandOf (take (length q - 8) (drop 8 q)) → decision ≡ decideOf d setup command → decision ≡ Read → uploadedOf n d setup m b y ≡ serveOf n d q m b y
 serve-reads n d q m b y setup command decision s k e t =
-    ap (λ (x : Setup). readOf n d x m b y) s ∙ serve-is n d q m b y setup command decision Read s k e t
+    ap (λ (x : Setup). uploadedOf n d x m b y) s ∙ serve-is n d q m b y setup command decision Read s k e t
 
 pub decided-bounded : (d : Device) (setup : Setup) (command : Command) (decision x : Decision) → decision ≡ decideOf d setup command → decision ≡ x → Bounded setup x
 decided-bounded d setup command decision x e t = rw (← t, e) (decide-bounded d setup command)

@@ -13,7 +13,7 @@ use Rattle.device.proofs.Form.{form-of, well-formed}
 use Rattle.loader.specs.declared.Event.{Event}
 use Rattle.loader.specs.declared.Stepped.{Stepped}
 use Rattle.loader.specs.declared.Answer.the-variants as answer
-use Rattle.loader.specs.declared.Admission.the-variants as admission
+use Rattle.refusal.specs.declared.Admission.the-variants as admission
 use Rattle.loader.specs.Answer.{outcome, left}
 use Rattle.loader.specs.Faults.{faultsOf}
 use Rattle.loader.specs.Step.{sizesOf, admittedOf, stepOf}

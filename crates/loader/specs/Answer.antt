@@ -1,7 +1,7 @@
 -- What a step leaves, and its answers by numbers. Document 01, "Events" and "Refusal numbers". Assumes nothing.
 use mathlib.Core.List.{List, [], _∷_}
 use Prim.Native.Nat.{ℕ}
-use Rattle.refusal.specs.Refusal.{numberOf, lineOf}
+use Rattle.refusal.specs.Refusal.{numberOf, lineNamed}
 use Rattle.device.specs.declared.Device.{Device}
 use Rattle.loader.specs.declared.Answer.{Answer}
 use Rattle.loader.specs.declared.Answer.the-variants.{Accepted, Reply, Stall, Silent, Refused}
@@ -25,7 +25,7 @@ told Accepted = 0 ∷ []
 told (Reply count) = replyTold ∷ count ∷ []
 told Stall = stallTold ∷ []
 told Silent = silentTold ∷ []
-told (Refused refusal) = 4 ∷ numberOf refusal ∷ lineOf refusal ∷ []
+told (Refused refusal) = 4 ∷ numberOf refusal ∷ lineNamed refusal ∷ []
 
 -- the answer, the next state, and the three buffers
 pub record Outcome : Type 0 where

@@ -16,7 +16,7 @@ use Rattle.device.specs.declared.Mode.the-variants.{UploadIdle}
 use Rattle.device.specs.declared.Ran.{Ran}
 use Rattle.device.specs.declared.Report.{Report}
 use Rattle.device.specs.Wire.{wireOf, isMode}
-use Rattle.device.specs.State.{entered, stalled, afterStatus, reportOf}
+use Rattle.device.specs.State.{entered, stalled, afterStatus, reportOf, nothingRan}
 use Rattle.device.specs.WellFormed.{wellFormed}
 use Rattle.decision.specs.declared.Decision.{Decision}
 use Rattle.decision.specs.declared.Decision.the-variants as decided
@@ -24,7 +24,7 @@ use Rattle.decision.specs.Decide.{commandOf, decideOf}
 use Rattle.action.specs.declared.Access.{Access}
 use Rattle.action.specs.declared.Access.the-variants.{Denied, InFlash, InRam, InOptions}
 use Rattle.action.specs.declared.Action.{Action}
-use Rattle.action.specs.Access.{accessOf, blockAddress}
+use Rattle.action.specs.Access.{blockAccess}
 use Rattle.action.specs.Action.{actionOf, ranOf}
 use Rattle.loader.specs.declared.Answer.the-variants.{Accepted, Reply, Stall, Silent}
 use Rattle.loader.specs.Answer.{Outcome, outcome}
@@ -55,7 +55,7 @@ performs n action d b m = run (ranOf action (d .pointer) (performedOf n action b
 unfoldable pub runOf : ℕ → Device → List ℕ → List ℕ → Run
 runOf n d b m =
     cond (isMode 3 (d .mode)) (performs n (actionOf n (readProtected n m) d) d b m)
-    (run (record { status = 0; pointer = d .pointer; reboots = false }) m)
+    (run (nothingRan d) m)
 
 -- "GETSTATUS", r being what ran
 abbrev pub reported : Run → Device → List ℕ → List ℕ → Outcome
@@ -77,8 +77,8 @@ readAt (InRam at) count d m b y = sentOf at count d m b y
 readAt (InOptions at) count d m b y = sentOf at count d m b y
 
 -- "UPLOAD" of memory, with the block address and the checks
-unfoldable pub readOf : ℕ → Device → Setup → List ℕ → List ℕ → List ℕ → Outcome
-readOf n d s m b y = readAt (accessOf n (readProtected n m) (blockAddress (s .value) (s .length) (d .pointer)) (s .length)) (s .length) d m b y
+unfoldable pub uploadedOf : ℕ → Device → Setup → List ℕ → List ℕ → List ℕ → Outcome
+uploadedOf n d s m b y = readAt (blockAccess n (readProtected n m) (s .value) (s .length) (d .pointer)) (s .length) d m b y
 
 -- "00 21 41 92"
 abbrev pub commandCodes : List ℕ
@@ -99,7 +99,7 @@ actedOf (decided.Stall next) n d q m b y = outcome Stall next m b y
 actedOf (decided.Accept next) n d q m b y = outcome Accepted next m b y
 actedOf (decided.Take next) n d q m b y = outcome Accepted next m (put 0 (drop 8 q) b) y
 actedOf (decided.Commands next count) n d q m b y = outcome (Reply count) next m b (put 0 (take count commandCodes) y)
-actedOf decided.Read n d q m b y = readOf n d (setupOf q) m b y
+actedOf decided.Read n d q m b y = uploadedOf n d (setupOf q) m b y
 actedOf decided.State n d q m b y = outcome (Reply 1) d m b (put 0 (wireOf (d .mode) ∷ []) y)
 actedOf decided.Status n d q m b y = statusOf n d m b y
 

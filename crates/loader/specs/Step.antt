@@ -15,8 +15,8 @@ use Rattle.loader.specs.declared.Event.{Event}
 use Rattle.loader.specs.declared.Event.the-variants as event
 use Rattle.loader.specs.declared.Answer.the-variants.{Accepted, Refused}
 use Rattle.loader.specs.declared.Sizes.{Sizes}
-use Rattle.loader.specs.declared.Admission.{Admission}
-use Rattle.loader.specs.declared.Admission.the-variants as admission
+use Rattle.refusal.specs.declared.Admission.{Admission}
+use Rattle.refusal.specs.declared.Admission.the-variants as admission
 use Rattle.loader.specs.Answer.{Outcome, outcome}
 use Rattle.loader.specs.Serve.{serveOf}
 

@@ -12,7 +12,7 @@ ghost use Rattle.device.specs.Wire.{isMode};
 ghost use Rattle.device.specs.WellFormed.{wellFormed};
 ghost use Rattle.loader.specs.Answer.{left};
 ghost use Rattle.loader.specs.Perform.{performed, performedOf, writtenOf, endOf, countOf};
-ghost use Rattle.loader.specs.Serve.{InOrder, run, runOf, statusBytes, statusOf, pollOf, readOf, sentOf, serveOf, commandCodes};
+ghost use Rattle.loader.specs.Serve.{InOrder, run, runOf, statusBytes, statusOf, pollOf, uploadedOf, sentOf, serveOf, commandCodes};
 ghost use Rattle.loader.specs.Step.{admittedOf, admittedIn, stepOf};
 use action::Access;
 use action::Action;
@@ -23,6 +23,7 @@ use device::Device;
 use device::Mode;
 use device::Ran;
 use device::Report;
+use refusal::Admission;
 use refusal::Refusal;
 use request::Setup;
 
@@ -52,12 +53,6 @@ pub struct Sizes {
     pub memory: usize,
     pub block: usize,
     pub reply: usize,
-}
-
-// Whether a call is one that the loader takes.
-pub enum Admission {
-    Admitted,
-    Refused(Refusal),
 }
 
 // One event. For an Attach the request is not looked at.
@@ -173,12 +168,11 @@ fn list_commands(reply: &mut [u8], count: usize)
 // UPLOAD of memory: the checks, then the bytes.
 fn upload(board: Board, device: Device, setup: Setup, memory: &[u8], reply: &mut [u8]) -> Stepped
     requires { ⌜ (length (now memory) ≡ memoryBytes (board .pages)) × (length (now reply) ≡ transferBytes) × (setup .length ≤ transferBytes) ⌝ }
-    ensures { λ r. ⌜ ((b : List ℕ) → left r (now (memory .entry)) b (now (reply .exit)) ≡ readOf (board .pages) device setup (now (memory .entry)) b (now (reply .entry))) ⌝ }
+    ensures { λ r. ⌜ ((b : List ℕ) → left r (now (memory .entry)) b (now (reply .exit)) ≡ uploadedOf (board .pages) device setup (now (memory .entry)) b (now (reply .entry))) ⌝ }
 {
     let protected = board.read_protected(memory);
     let count = setup.length;
-    let address = action::block_address(setup.value, count, device.pointer);
-    let access = action::examine(board, protected, address, count);
+    let access = action::examine_block(board, protected, setup.value, count, device.pointer);
     match access {
         Access::Denied(status) => answered(device.stall(status), Answer::Stall),
         Access::InFlash(at) => send(device, memory, at, count, reply),
@@ -242,18 +236,13 @@ fn run(board: Board, device: Device, memory: &mut [u8], block: &[u8]) -> Ran
     requires { ⌜ (length (now memory) ≡ memoryBytes (board .pages)) × (length (now block) ≡ transferBytes) × (wellFormed (board .pages) device ≡ true) ⌝ }
     ensures { λ r. ⌜ run r (now (memory .exit)) ≡ runOf (board .pages) device (now (block .entry)) (now (memory .entry)) ⌝ }
 {
-    let pointer = device.pointer;
     if !waits(device) {
-        return Ran {
-            status: 0,
-            pointer,
-            reboots: false,
-        };
+        return device.nothing_ran();
     }
     let protected = board.read_protected(memory);
     let action = action::intend(board, protected, device);
     let status = perform(board, action, memory, block);
-    action.ran(pointer, status)
+    action.ran(device.pointer, status)
 }
 
 // Does a command wait for this GETSTATUS?

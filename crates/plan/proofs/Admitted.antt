@@ -6,9 +6,10 @@ use Prim.Native.Nat.{ℕ}
 use lib.ListN.{length}
 use Rattle.laws.proofs.Split.{by-bool}
 use Rattle.refusal.specs.declared.Refusal.the-variants.{Protected}
-use Rattle.loader.specs.declared.Admission.the-variants as admission
-use Rattle.verdict.specs.Checked.{supplied}
-use Rattle.verdict.proofs.Supply.{Supplied, refused-not, then-parts, supplied-parts}
+use Rattle.refusal.specs.declared.Admission.the-variants as admission
+use Rattle.board.specs.Supply.{supplied}
+use Rattle.board.proofs.Supply.{Supplied, refused-not, supplied-parts}
+use Rattle.verdict.proofs.Supply.{then-parts}
 use Rattle.plan.specs.Plan.{barred, planable}
 
 module _ (n : ℕ) (image card : List ℕ) (e : planable n image card ≡ admission.Admitted) where

@@ -11,13 +11,13 @@ use Rattle.laws.proofs.Split.{by-lt}
 use Rattle.board.specs.Layout.{flashBytes}
 use Rattle.refusal.specs.declared.Refusal.{Refusal}
 use Rattle.refusal.specs.declared.Refusal.the-variants.{Image, Output, Protected}
-use Rattle.loader.specs.declared.Admission.{Admission}
-use Rattle.loader.specs.declared.Admission.the-variants as admission
-use Rattle.job.specs.declared.Done.the-variants.{Bytes, Refused}
-use Rattle.job.specs.Calls.{left, delivered}
-use Rattle.job.proofs.Answers.{delivered-room}
-use Rattle.verdict.specs.Checked.{supplied}
-use Rattle.verdict.proofs.Supply.{image-long}
+use Rattle.refusal.specs.declared.Admission.{Admission}
+use Rattle.refusal.specs.declared.Admission.the-variants as admission
+use Rattle.refusal.specs.declared.Done.the-variants.{Bytes, Refused}
+use Rattle.refusal.specs.Delivery.{delivery, delivered}
+use Rattle.refusal.proofs.Delivery.{delivered-room}
+use Rattle.board.specs.Supply.{supplied}
+use Rattle.board.proofs.Supply.{image-long}
 use Rattle.plan.specs.Plan.{planOf, barred, planable, planned}
 use Rattle.plan.specs.Parts.{mostBytes}
 
@@ -33,12 +33,12 @@ image-fits n image card s is admitted h =
     (λ l. omega arith)
 
 module _ (n : ℕ) (image card out : List ℕ) (s : Admission) (is : s ≡ supplied n (length image) (length card)) where
-  pub plan-refused : (why : Refusal) → s ≡ admission.Refused why → left (Refused why) out ≡ planned n image card out
+  pub plan-refused : (why : Refusal) → s ≡ admission.Refused why → delivery (Refused why) out ≡ planned n image card out
   unfolding planned planable
   plan-refused why e = rw (sym is ∙ e)
 
   module _ (admitted : s ≡ admission.Admitted) where
-    pub plan-barred : barred image card ≡ true → left (Refused Protected) out ≡ planned n image card out
+    pub plan-barred : barred image card ≡ true → delivery (Refused Protected) out ≡ planned n image card out
     unfolding planned planable
     plan-barred h = rw (sym is ∙ admitted, h)
 
@@ -47,13 +47,13 @@ module _ (n : ℕ) (image card out : List ℕ) (s : Admission) (is : s ≡ suppl
       unfolding planned planable
       delivers = rw (sym is ∙ admitted, unbarred)
 
-      pub plan-short : length out < size → left (Refused Output) out ≡ planned n image card out
+      pub plan-short : length out < size → delivery (Refused Output) out ≡ planned n image card out
       unfolding delivered
       plan-short h =
           let l : length out < length (planOf image) = omega arith in
           sym (delivers ∙ rw (lt-leb (length (planOf image)) (length out) l))
 
-      pub plan-done : (out₂ : List ℕ) → size ≤ length out → out₂ ≡ put 0 (planOf image) out → left (Bytes size) out₂ ≡ planned n image card out
+      pub plan-done : (out₂ : List ℕ) → size ≤ length out → out₂ ≡ put 0 (planOf image) out → delivery (Bytes size) out₂ ≡ planned n image card out
       plan-done out₂ h p =
           let l : length (planOf image) ≤ length out = omega arith in
-          ap₂ (λ (k : ℕ) (l : List ℕ). left (Bytes k) l) length-is p ∙ sym (delivers ∙ delivered-room (planOf image) out l)
+          ap₂ (λ (k : ℕ) (l : List ℕ). delivery (Bytes k) l) length-is p ∙ sym (delivers ∙ delivered-room (planOf image) out l)

@@ -5,12 +5,13 @@ use mathlib.Core.List.{List}
 use Prim.Native.Nat.{ℕ, _≤_}
 use lib.ListN.{length}
 use borrow.Author.Tests.{eq-eqb, le-ltb}
-use Rattle.loader.specs.declared.Admission.the-variants as admission
-use Rattle.hex.specs.Hex.{allBytes}
+use Rattle.refusal.specs.declared.Admission.the-variants as admission
+use Rattle.laws.specs.Lists.{allBytes}
 use Rattle.job.specs.Text.{limit, firstBad}
 use Rattle.job.specs.Calls.{measureOf}
 use Rattle.job.proofs.EventText.{text-clean}
-use Rattle.verdict.specs.Checked.{workBytes, supplied, readable, checkable}
+use Rattle.board.specs.Supply.{supplied}
+use Rattle.verdict.specs.Checked.{workBytes, readable, checkable}
 use Rattle.plan.specs.Plan.{planEvents, planOf}
 use Rattle.plan.proofs.Proper.{plan-proper}
 

@@ -8,9 +8,9 @@ use lib.ListN.{length, getD}
 use Rattle.laws.proofs.Split.{by-lt, or-false}
 use Rattle.board.specs.Protection.{lockedFrom, wordFrom, writeProtected, anyProtected}
 use Rattle.board.proofs.Protection.{protected-past}
-use Rattle.hex.specs.Hex.{allBytes}
-use Rattle.hex.proofs.Bytes.{byte-at}
-use Rattle.verdict.specs.Verdict.{pagesOf}
+use Rattle.laws.specs.Lists.{allBytes}
+use Rattle.laws.proofs.Lists.{byte-at}
+use Rattle.board.specs.Layout.{pagesOf}
 use Rattle.plan.specs.Plan.{barred}
 
 word-small : (card : List ℕ) → allBytes card ≡ true → wordFrom 0 card < 2 ^ 32

@@ -9,8 +9,7 @@ use lib.Seq.{getD-take, getD-drop, length-take-le, take-all}
 use borrow.Author.Tests.{eqb-true, eqb-false}
 use Rattle.laws.proofs.Bytes.{take-at-most}
 use Rattle.laws.proofs.Split.{by-bool, by-lt}
-use Rattle.board.specs.Layout.{pageBytes}
-use Rattle.verdict.specs.Verdict.{pagesOf}
+use Rattle.board.specs.Layout.{pageBytes, pagesOf}
 use Rattle.plan.specs.Plan.{padded, pageOf}
 
 -- behind its end a list has its default, so that one more of it changes nothing

@@ -7,8 +7,7 @@ use lib.ListN.{length, drop, length-append, length-drop}
 use lib.Seq.{take-all, length-take-le}
 use borrow.Author.Tests.{eq-eqb, ne-eqb}
 use Rattle.laws.proofs.Split.{by-eq, by-lt}
-use Rattle.board.specs.Layout.{pageBytes}
-use Rattle.verdict.specs.Verdict.{pagesOf}
+use Rattle.board.specs.Layout.{pageBytes, pagesOf}
 use Rattle.plan.specs.Plan.{pageOf, planOf}
 use Rattle.plan.specs.Parts.{pageText, restText, paddedLength, pageLines, planBytes}
 use Rattle.plan.proofs.Lines.{padded-one, padded-more, page-length, leaving-length}

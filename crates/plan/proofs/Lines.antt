@@ -11,7 +11,7 @@ use Rattle.job.specs.Event.{Event, request, lineOf, textOf}
 use Rattle.job.proofs.SpellSize.{line-length-of}
 use Rattle.request.specs.Spelled.{four}
 use Rattle.plan.specs.Plan.{download, getStatus, polled, pageAddress, erasePage, setPointer, padded, pageOf}
-use Rattle.plan.specs.Parts.{polledText, pageText, leavingText, statusBytes, sentBytes, leavingBytes, paddedLength, pageLines}
+use Rattle.plan.specs.Parts.{polledText, pageText, leavingText, statusLineBytes, sentBytes, leavingBytes, paddedLength, pageLines}
 
 -- a request's line, from what the writer of the line asks for and promises
 pub line-fits : (q : List ℕ) (at n : ℕ) → 8 ≤ length q → at + (20 + (length q - 8) * 2) ≤ n → (8 ≤ length q) × (at + length (lineOf (request q)) ≤ n)
@@ -20,7 +20,7 @@ line-fits q at n h room = let e = line-length-of q h in (h, omega arith)
 pub line-count : (q : List ℕ) (n : ℕ) → n ≡ length (lineOf (request q)) → 8 ≤ length q → n ≡ 20 + (length q - 8) * 2
 line-count q n e h = e ∙ line-length-of q h
 
-pub status-length : length (lineOf getStatus) ≡ statusBytes
+pub status-length : length (lineOf getStatus) ≡ statusLineBytes
 status-length = line-length-of (0xA1 ∷ 3 ∷ 0 ∷ 0 ∷ 0 ∷ 0 ∷ 6 ∷ 0 ∷ []) (omega arith)
 
 -- a request with its two GETSTATUS

@@ -12,7 +12,7 @@ use Rattle.refusal.specs.declared.Refusal.the-variants.{Image, Card, Protected}
 use Rattle.refusal.specs.Order.{firstOf}
 use Rattle.refusal.proofs.Order.{behind, first-here}
 use Rattle.job.proofs.Order.{answered, outputFaults, delivered-order}
-use Rattle.verdict.specs.Checked.{supplied}
+use Rattle.board.specs.Supply.{supplied}
 use Rattle.verdict.proofs.Order.{supplyFaults}
 use Rattle.plan.specs.Plan.{planOf, barred, planable, planned}
 

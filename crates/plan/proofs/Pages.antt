@@ -18,7 +18,7 @@ use Rattle.device.specs.declared.Mode.{Mode}
 use Rattle.device.specs.declared.Mode.the-variants.{DownloadIdle}
 use Rattle.device.specs.Wire.{isMode}
 use Rattle.device.specs.Table.{allowedOf}
-use Rattle.hex.specs.Hex.{allBytes}
+use Rattle.laws.specs.Lists.{allBytes}
 use Rattle.memory.specs.Flash.{kept, stored}
 use Rattle.job.specs.Event.{Event}
 use Rattle.verdict.specs.World.{Fresh}

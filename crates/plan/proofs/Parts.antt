@@ -11,7 +11,7 @@ use Rattle.laws.proofs.Bytes.{sets-put, rest-is, take-at-most}
 use Rattle.board.specs.Layout.{pageBytes, flashFirst}
 use Rattle.job.specs.Event.{request, lineOf}
 use Rattle.plan.specs.Plan.{download, getStatus, pageAddress, erasePage, setPointer, padded, pageOf}
-use Rattle.plan.specs.Parts.{polledText, pageText, leavingText, Laid, statusBytes, sentBytes, leavingBytes, paddedLength, pageLines}
+use Rattle.plan.specs.Parts.{polledText, pageText, leavingText, Laid, statusLineBytes, sentBytes, leavingBytes, paddedLength, pageLines}
 use Rattle.plan.proofs.Lines.{line-fits, line-count, status-length, polled-text, command-length, leaving-text, leave-length}
 
 pub line-laid : (q m m′ : List ℕ) (at : ℕ) → 8 ≤ length q → at + (20 + (length q - 8) * 2) ≤ length m → m′ ≡ put at (lineOf (request q)) m → m′ ≡ sets m at (lineOf (request q))
@@ -23,16 +23,16 @@ laid-behind xs ys m m₁ m₂ at a n l p e q =
     q ∙ ap₂ (λ (z : List ℕ) (i : ℕ). sets z i ys) p k ∙ sym (sets-append xs ys m at)
 
 -- a request with its two GETSTATUS
-pub send-laid : (q m m₁ m₂ m₃ : List ℕ) (at n b r : ℕ) → 8 ≤ length q → at + sentBytes (length q - 8) ≤ length m → (m₁ ≡ put at (lineOf (request q)) m) × (n ≡ length (lineOf (request q))) → Laid m₁ (at + n) (lineOf getStatus) statusBytes m₂ b → Laid m₂ b (lineOf getStatus) statusBytes m₃ r → Laid m at (polledText (request q)) (sentBytes (length q - 8)) m₃ r
+pub send-laid : (q m m₁ m₂ m₃ : List ℕ) (at n b r : ℕ) → 8 ≤ length q → at + sentBytes (length q - 8) ≤ length m → (m₁ ≡ put at (lineOf (request q)) m) × (n ≡ length (lineOf (request q))) → Laid m₁ (at + n) (lineOf getStatus) statusLineBytes m₂ b → Laid m₂ b (lineOf getStatus) statusLineBytes m₃ r → Laid m at (polledText (request q)) (sentBytes (length q - 8)) m₃ r
 send-laid q m m₁ m₂ m₃ at n b r h room w p s =
     let l = lineOf (request q) in
     let g = lineOf getStatus in
     let k : n ≡ 20 + (length q - 8) * 2 = line-count q n (w .1) h in
-    let e : b ≡ at + (n + statusBytes) = let z = p .1 in omega arith in
-    let t : length (l ++ g) ≡ n + statusBytes = length-append l g ∙ ap₂ (λ (i : ℕ) (j : ℕ). i + j) (sym (w .1)) status-length in
+    let e : b ≡ at + (n + statusLineBytes) = let z = p .1 in omega arith in
+    let t : length (l ++ g) ≡ n + statusLineBytes = length-append l g ∙ ap₂ (λ (i : ℕ) (j : ℕ). i + j) (sym (w .1)) status-length in
     let first : m₁ ≡ sets m at l = line-laid q m m₁ at h (omega arith) (w .0) in
     let second : m₂ ≡ sets m at (l ++ g) = laid-behind l g m m₁ m₂ at (at + n) n (sym (w .1)) first refl (p .0) in
-    let third : m₃ ≡ sets m at (l ++ g ++ g) = laid-behind (l ++ g) g m m₂ m₃ at b (n + statusBytes) t second e (s .0) in
+    let third : m₃ ≡ sets m at (l ++ g ++ g) = laid-behind (l ++ g) g m m₂ m₃ at b (n + statusLineBytes) t second e (s .0) in
     let z = p .1 in
     let y = s .1 in
     (rw (polled-text (request q)) third, omega arith)

@@ -8,7 +8,7 @@ use lib.ListN.{length, take, drop, getD, length-drop, List·getD-eq-default}
 use lib.Seq.{ext-getD, getD-take, getD-drop, length-take-le}
 use borrow.Author.Tests.{eq-eqb, lt-ltb, le-ltb}
 use Rattle.laws.proofs.Split.{by-lt}
-use Rattle.board.specs.Layout.{pageBytes, flashFirst, flashBytes, optionsFrom, optionBytes}
+use Rattle.board.specs.Layout.{pageBytes, flashFirst, flashBytes, optionsFrom, optionBytes, pagesOf}
 use Rattle.board.specs.Protection.{lockedFrom, wordFrom, anyProtected}
 use Rattle.board.proofs.Protection.{none-parts}
 use Rattle.request.specs.declared.Request.the-variants.{Download}
@@ -16,10 +16,10 @@ use Rattle.device.specs.declared.Mode.{Mode}
 use Rattle.device.specs.declared.Mode.the-variants.{Idle, DownloadIdle, ManifestSync, Left}
 use Rattle.device.specs.Wire.{isMode}
 use Rattle.device.specs.Table.{allowedOf}
-use Rattle.hex.specs.Hex.{allBytes}
-use Rattle.job.proofs.FirstLine.{same-refl}
+use Rattle.laws.specs.Lists.{allBytes}
+use Rattle.laws.proofs.Lists.{same-refl}
 use Rattle.verdict.specs.declared.Verdict.the-variants as verdict
-use Rattle.verdict.specs.Verdict.{endFails, pagesOf, pagesEnd}
+use Rattle.verdict.specs.Verdict.{endFails, pagesEnd}
 use Rattle.verdict.specs.Checked.{workBytes}
 use Rattle.cells.specs.Cells.{begun, Over, ended, overOf, suspect, lowestFrom, endNumber, endVerdict, overVerdict, verdictOf}
 use Rattle.cells.proofs.Lowest.{lowest-none}

@@ -8,15 +8,15 @@ use lib.Dec.{eqb, ltb}
 use lib.ListN.{length, drop}
 use borrow.Author.Tests.{lt-ltb}
 use Rattle.laws.proofs.Split.{by-bool}
-use Rattle.board.specs.Layout.{pageBytes, flashFirst}
+use Rattle.board.specs.Layout.{pageBytes, flashFirst, pagesOf}
 use Rattle.request.specs.Setup.{setupOf, dataLength, fitsOf}
-use Rattle.hex.specs.Hex.{allBytes}
+use Rattle.laws.specs.Lists.{allBytes}
 use Rattle.job.specs.Event.{Event, fits, inBytes, proper}
-use Rattle.job.proofs.Formed.{fits-if, bytes-append, bytes-take, bytes-drop}
+use Rattle.laws.proofs.Lists.{bytes-append, bytes-take, bytes-drop}
+use Rattle.job.proofs.Formed.{fits-if}
 use Rattle.cells.proofs.Events.{Fitting}
 use Rattle.cells.proofs.Runs.{AllFit}
 use Rattle.request.specs.Spelled.{two, four}
-use Rattle.verdict.specs.Verdict.{pagesOf}
 use Rattle.plan.specs.Plan.{download, getStatus, polled, pageAddress, erasePage, setPointer, padded, pageOf, leaving, pagesFrom, planEvents}
 use Rattle.plan.proofs.Requests.{setupFor, download-setup}
 use Rattle.plan.proofs.Image.{padded-most, page-most}

@@ -5,7 +5,7 @@ use mathlib.Core.List.{List}
 use Prim.Native.Nat.{ℕ}
 use lib.ListN.{length}
 use Rattle.board.specs.Protection.{lockedFrom, wordFrom, anyProtected}
-use Rattle.verdict.specs.Verdict.{pagesOf}
+use Rattle.board.specs.Layout.{pagesOf}
 use Rattle.plan.specs.Plan.{barred}
 
 pub barred-locked : (image card : List ℕ) → lockedFrom 0 card ≡ true → true ≡ barred image card

@@ -28,7 +28,7 @@ use Rattle.device.specs.State.{afterStatus, reportOf}
 use Rattle.decision.specs.Decide.{commandOf, commandedOf, downloadOf, decideOf}
 use Rattle.action.specs.declared.Action.{Action}
 use Rattle.action.specs.declared.Action.the-variants.{Point, Erase, StoreFlash}
-use Rattle.action.specs.Access.{accessOf, blockAddress}
+use Rattle.action.specs.Access.{accessOf, blockAddress, blockAccess}
 use Rattle.action.specs.Action.{actionIn, actionOf, movedOf, rebootsOf}
 use Rattle.memory.specs.Flash.{stored}
 use Rattle.job.specs.Event.{Event}
@@ -159,7 +159,7 @@ module _ (n : ℕ) (es : List Event) (mode : Mode) (heard : isMode 0 mode ≡ fa
 
   -- w′ is the work area with the block in its place
   pub write-polled : (at : ℕ) (xs w w′ : List ℕ) (k : ℕ) → 2 ≤ length xs → length xs ≤ transferBytes → at + length xs ≤ flashBytes n → w′ ≡ put (blockFrom n) xs w → readProtected n w′ ≡ false → blockOf n (length xs) w′ ≡ xs → surely n (wordOf n w′) at (length xs) w′ ≡ true → overOf n (polled (download 2 xs) es) (resting mode (flashFirst + at)) w k ≡ overOf n es (resting DownloadIdle (flashFirst + at)) (stored (wordOf n w′) at xs w′) (suc (suc (suc k)))
-  unfolding accessOf blockAddress
+  unfolding blockAccess accessOf blockAddress
   write-polled at xs w w′ k a b h e r block sure =
       let some : 1 ≤ length xs = omega arith in
       let zero-block : (2 - 2) * length xs + (flashFirst + at) ≡ flashFirst + at = omega arith in

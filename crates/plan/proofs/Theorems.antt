@@ -6,8 +6,8 @@ use Prim.Native.Nat.{ℕ, _%_, _≤_}
 use native.Mathlib.Omega.{arith}
 use lib.ListN.{length, replicate, length-replicate}
 use Rattle.board.specs.Layout.{loggerPages, pageBytes, flashBytes, optionBytes}
-use Rattle.loader.specs.declared.Admission.the-variants as admission
-use Rattle.hex.specs.Hex.{allBytes}
+use Rattle.refusal.specs.declared.Admission.the-variants as admission
+use Rattle.laws.specs.Lists.{allBytes}
 use Rattle.job.specs.Text.{limit, eventsOf}
 use Rattle.job.proofs.EventText.{text-events}
 use Rattle.verdict.specs.declared.Verdict.{Verdict}
@@ -22,14 +22,14 @@ use Rattle.plan.proofs.Proper.{plan-fits, plan-proper}
 use Rattle.plan.proofs.Admitted.{planable-supplied, planable-lengths, planable-free}
 use Rattle.plan.proofs.Call.{plan-checkable}
 use Rattle.laws.proofs.Split.{by-eq}
-use Rattle.job.specs.declared.Done.{Done}
-use Rattle.job.specs.Calls.{left}
-use Rattle.job.proofs.Answers.{left-injective}
+use Rattle.refusal.specs.declared.Done.{Done}
+use Rattle.refusal.specs.Delivery.{delivery}
+use Rattle.refusal.proofs.Delivery.{delivery-injective}
 use Rattle.plan.proofs.Length.{bytes-one, bytes-more, plan-length}
 
 -- "any two outcomes allowed by a promise are equal"
-pub one-plan : (n : ℕ) (image card out x y : List ℕ) (r s : Done) → left r x ≡ planned n image card out → left s y ≡ planned n image card out → (r ≡ s) × (x ≡ y)
-one-plan n image card out x y r s p q = left-injective r s x y (p ∙ sym q)
+pub one-plan : (n : ℕ) (image card out x y : List ℕ) (r s : Done) → delivery r x ≡ planned n image card out → delivery s y ≡ planned n image card out → (r ≡ s) × (x ≡ y)
+one-plan n image card out x y r s p q = delivery-injective r s x y (p ∙ sym q)
 
 -- "The longest is 36,078 bytes"
 pub plan-at-most : (image : List ℕ) → length image ≤ flashBytes loggerPages → length (planOf image) ≤ 36078

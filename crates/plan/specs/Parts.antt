@@ -6,9 +6,8 @@ use Prim.Native.Nat.{ℕ, _+_, _*_, _%_}
 use lib.Dec.{eqb}
 use lib.ListN.{length}
 use lib.Seq.{sets}
-use Rattle.board.specs.Layout.{pageBytes, flashBytes}
+use Rattle.board.specs.Layout.{pageBytes, flashBytes, pagesOf}
 use Rattle.job.specs.Event.{Event, textOf}
-use Rattle.verdict.specs.Verdict.{pagesOf}
 use Rattle.plan.specs.Plan.{download, polled, pageAddress, erasePage, setPointer, padded, pageOf, leaving, pagesFrom}
 
 -- the lines of an event and of the two GETSTATUS that follow it
@@ -33,8 +32,8 @@ abbrev pub Laid : List ℕ → ℕ → List ℕ → ℕ → List ℕ → ℕ →
 Laid m at xs n m′ r = (m′ ≡ sets m at xs) × (r ≡ at + n)
 
 -- how long the line of GETSTATUS is
-abbrev pub statusBytes : ℕ
-statusBytes = 20
+abbrev pub statusLineBytes : ℕ
+statusLineBytes = 20
 
 -- how long the lines of a request with n bytes of data are, and of the two GETSTATUS that follow it
 abbrev pub sentBytes : ℕ → ℕ

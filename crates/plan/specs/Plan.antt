@@ -4,17 +4,17 @@ use mathlib.Core.List.{List, [], _∷_, _++_}
 use Prim.Native.Nat.{ℕ, zero, suc, _+_, _*_}
 use lib.Dec.{eqb}
 use lib.ListN.{length, take, drop}
-use Rattle.board.specs.Layout.{pageBytes, flashFirst}
+use Rattle.board.specs.Layout.{pageBytes, flashFirst, pagesOf}
 use Rattle.board.specs.Protection.{lockedFrom, wordFrom, anyProtected}
 use Rattle.request.specs.Spelled.{four, downloading, gettingStatus}
 use Rattle.refusal.specs.declared.Refusal.the-variants.{Protected}
-use Rattle.loader.specs.declared.Admission.{Admission}
-use Rattle.loader.specs.declared.Admission.the-variants as admission
-use Rattle.job.specs.declared.Done.the-variants.{Refused}
+use Rattle.refusal.specs.declared.Admission.{Admission}
+use Rattle.refusal.specs.declared.Admission.the-variants as admission
+use Rattle.refusal.specs.declared.Done.the-variants.{Refused}
 use Rattle.job.specs.Event.{Event, request, textOf}
-use Rattle.job.specs.Calls.{Outcome, left, delivered}
-use Rattle.verdict.specs.Verdict.{pagesOf}
-use Rattle.verdict.specs.Checked.{supplied, then}
+use Rattle.refusal.specs.Delivery.{Delivery, delivery, delivered}
+use Rattle.board.specs.Supply.{supplied}
+use Rattle.verdict.specs.Checked.{then}
 
 -- DNLOAD of the data xs with this wValue
 abbrev pub download : ℕ → List ℕ → Event
@@ -79,10 +79,10 @@ planable n image card =
     then (supplied n (length image) (length card)) (cond (barred image card) (admission.Refused Protected) admission.Admitted)
 
 -- "A refusal leaves state and every buffer unchanged"; "11 comes last"
-abbrev pub ruled : Admission → List ℕ → List ℕ → Outcome
+abbrev pub ruled : Admission → List ℕ → List ℕ → Delivery
 ruled admission.Admitted text out = delivered text out
-ruled (admission.Refused r) text out = left (Refused r) out
+ruled (admission.Refused r) text out = delivery (Refused r) out
 
 -- the plan writer, for a board of n pages
-unfoldable pub planned : ℕ → List ℕ → List ℕ → List ℕ → Outcome
+unfoldable pub planned : ℕ → List ℕ → List ℕ → List ℕ → Delivery
 planned n image card out = ruled (planable n image card) (planOf image) out

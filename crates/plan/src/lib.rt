@@ -1,7 +1,7 @@
 // The plan writer: the job that puts an image on a board.
 use board::Board;
-use job::Done;
-use loader::Admission;
+use refusal::Admission;
+use refusal::Done;
 use refusal::Refusal;
 ghost use mathlib.Core.Path.{_≡_};
 ghost use mathlib.Core.List.{_∷_};
@@ -11,10 +11,10 @@ ghost use lib.Seq.{sets};
 ghost use Rattle.laws.specs.Bytes.{put};
 ghost use Rattle.board.specs.Layout.{loggerPages, pageBytes};
 ghost use Rattle.job.specs.Event.{request, lineOf};
-ghost use Rattle.job.specs.Calls.{left};
+ghost use Rattle.refusal.specs.Delivery.{delivery};
 ghost use Rattle.request.specs.Spelled.{four};
 ghost use Rattle.plan.specs.Plan.{download, getStatus, padded, planOf, barred, planned};
-ghost use Rattle.plan.specs.Parts.{polledText, pageText, leavingText, Laid, statusBytes, sentBytes, leavingBytes, paddedLength, pageLines, mostBytes};
+ghost use Rattle.plan.specs.Parts.{polledText, pageText, leavingText, Laid, statusLineBytes, sentBytes, leavingBytes, paddedLength, pageLines, mostBytes};
 
 // The command bytes of a DNLOAD with wValue 0: set pointer and erase page.
 const POINT: u8 = 0x21;
@@ -38,7 +38,7 @@ fn barred(image: &[u8], card: &[u8]) -> bool
     if board::locked(card, 0) {
         return true;
     }
-    board::any_protected(board::word(card, 0), verdict::pages_of(image))
+    board::any_protected(board::word(card, 0), board::pages_of(image))
 }
 
 // How many bytes a block of so many bytes of the image has: a single one gets a second.
@@ -53,7 +53,7 @@ fn size(image: &[u8]) -> usize
     requires { ⌜ length (now image) ≤ mostBytes ⌝ }
     ensures { λ r. ⌜ r ≡ length (planOf (now (image .entry))) ⌝ }
 {
-    let lines = verdict::pages_of(image) * PAGE_LINES + END_LINES;
+    let lines = board::pages_of(image) * PAGE_LINES + END_LINES;
     // the last page has a single byte, which gets a second
     if image.len() % Board::PAGE == 1 {
         return lines + (image.len() + 1) * 2;
@@ -63,8 +63,8 @@ fn size(image: &[u8]) -> usize
 
 // Writes the line of GETSTATUS into `out` from place `at` on, and gives the place behind it.
 fn poll(out: &mut [u8], at: usize) -> usize
-    requires { ⌜ at + statusBytes ≤ length (now out) ⌝ }
-    ensures { λ r. ⌜ Laid (now (out .entry)) at (lineOf getStatus) statusBytes (now (out .exit)) r ⌝ }
+    requires { ⌜ at + statusLineBytes ≤ length (now out) ⌝ }
+    ensures { λ r. ⌜ Laid (now (out .entry)) at (lineOf getStatus) statusLineBytes (now (out .exit)) r ⌝ }
 {
     let setup = [0xA1, 3, 0, 0, 0, 0, 6, 0];
     at + job::write_request(&setup, out, at)
@@ -140,7 +140,7 @@ fn write(image: &[u8], out: &mut [u8])
     requires { ⌜ (length (now image) ≤ mostBytes) × (length (planOf (now image)) ≤ length (now out)) ⌝ }
     ensures { λ _. ⌜ now (out .exit) ≡ put 0 (planOf (now (image .entry))) (now (out .entry)) ⌝ }
 {
-    let count = verdict::pages_of(image);
+    let count = board::pages_of(image);
     let mut number = 0;
     let mut at = 0;
     while number < count {
@@ -152,9 +152,9 @@ fn write(image: &[u8], out: &mut [u8])
 
 // Writes the plan of an image for a board with this card.
 fn plan_for(board: Board, image: &[u8], card: &[u8], out: &mut [u8]) -> Done
-    ensures { λ r. ⌜ left r (now (out .exit)) ≡ planned (board .pages) (now (image .entry)) (now (card .entry)) (now (out .entry)) ⌝ }
+    ensures { λ r. ⌜ delivery r (now (out .exit)) ≡ planned (board .pages) (now (image .entry)) (now (card .entry)) (now (out .entry)) ⌝ }
 {
-    let supplied = verdict::supplied(board, image.len(), card.len());
+    let supplied = board.supplied(image.len(), card.len());
     match supplied {
         Admission::Refused(why) => Done::Refused(why),
         Admission::Admitted => {
@@ -174,7 +174,7 @@ fn plan_for(board: Board, image: &[u8], card: &[u8], out: &mut [u8]) -> Done
 
 // Writes the plan of an image to the front of `out`, for a board with this card.
 pub fn plan(image: &[u8], card: &[u8], out: &mut [u8]) -> Done
-    ensures { λ r. ⌜ left r (now (out .exit)) ≡ planned loggerPages (now (image .entry)) (now (card .entry)) (now (out .entry)) ⌝ }
+    ensures { λ r. ⌜ delivery r (now (out .exit)) ≡ planned loggerPages (now (image .entry)) (now (card .entry)) (now (out .entry)) ⌝ }
 {
     plan_for(Board::LOGGER, image, card, out)
 }

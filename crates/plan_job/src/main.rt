@@ -4,8 +4,8 @@ mod file;
 mod refuse;
 
 use board::Board;
-use job::Done;
 use libc::STDOUT_FILENO;
+use refusal::Done;
 use refusal::Refusal;
 
 // One byte more than an image and a card may have, so that a longer file shows as such.

@@ -1,8 +1,8 @@
 // Refusals: the line that names one, and a sentence for people.
 use crate::file;
 use board::Board;
-use job::Done;
 use libc::STDERR_FILENO;
+use refusal::Done;
 use refusal::Refusal;
 use verdict::Verdict;
 
@@ -128,7 +128,7 @@ fn protected(image: &[u8], card: &[u8]) {
         );
         return;
     }
-    page(first_protected(board::word(card, 0), verdict::pages_of(image)));
+    page(first_protected(board::word(card, 0), board::pages_of(image)));
 }
 
 // An image or a card that no job is for.

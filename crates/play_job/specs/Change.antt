@@ -6,6 +6,6 @@ use lib.Dec.{eqb}
 use lib.ListN.{getD}
 
 -- of so many places from place i on, the lowest where the two differ, or the place behind them
-unfoldable pub firstOf : List ℕ → List ℕ → ℕ → ℕ → ℕ
-firstOf old new zero i = i
-firstOf old new (suc n) i = cond (eqb (getD old i 0) (getD new i 0)) (firstOf old new n (suc i)) i
+unfoldable pub firstChange : List ℕ → List ℕ → ℕ → ℕ → ℕ
+firstChange old new zero i = i
+firstChange old new (suc n) i = cond (eqb (getD old i 0) (getD new i 0)) (firstChange old new n (suc i)) i

@@ -1,7 +1,7 @@
 // Where two memories differ, in words.
 ghost use mathlib.Core.Path.{_≡_};
 ghost use Prim.Native.Nat.{_-_, _≤_};
-ghost use Rattle.play_job.specs.Change.{firstOf};
+ghost use Rattle.play_job.specs.Change.{firstChange};
 use board::Board;
 
 // The parts that are told apart: the pages, then RAM, then the options.
@@ -23,7 +23,7 @@ struct Part {
 
 // The lowest place from `from` up to `to` where the two differ, or the first that is not below `to`.
 fn first(old: &[u8], new: &[u8], from: usize, to: usize) -> usize
-    ensures { λ r. ⌜ (r ≡ firstOf (now (old .entry)) (now (new .entry)) (to - from) from) × (from ≤ r) ⌝ }
+    ensures { λ r. ⌜ (r ≡ firstChange (now (old .entry)) (now (new .entry)) (to - from) from) × (from ≤ r) ⌝ }
 {
     let mut i = from;
     while i < to {

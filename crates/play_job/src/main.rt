@@ -8,7 +8,7 @@ mod file;
 mod play;
 mod refuse;
 
-use job::Done;
+use refusal::Done;
 use refusal::Refusal;
 
 // One byte more than a job and a board may have, so that a longer file shows as such.

@@ -1,8 +1,8 @@
 // Refusals: the line that names one, on standard output, and a sentence for people, on standard error.
 use crate::file;
-use job::Done;
 use libc::STDERR_FILENO;
 use libc::STDOUT_FILENO;
+use refusal::Done;
 use refusal::Refusal;
 use verdict::Verdict;
 

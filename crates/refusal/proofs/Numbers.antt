@@ -6,7 +6,7 @@ use native.Mathlib.Omega.{arith}
 use lib.Dec.{eqb}
 use Rattle.refusal.specs.declared.Refusal.{Refusal}
 use Rattle.refusal.specs.declared.Refusal.the-variants.{Memory, Block, Reply, State, Request, Work, Image, Card, Text, Line, Output, Protected, File}
-use Rattle.refusal.specs.Refusal.{numberOf, lineOf}
+use Rattle.refusal.specs.Refusal.{numberOf, lineNamed}
 
 -- the refusal of a number and a line
 unfoldable pub refusalAt : ℕ → ℕ → Refusal
@@ -24,7 +24,7 @@ refusalAt n line =
     (cond (eqb n 11) Output
     (cond (eqb n 12) Protected File)))))))))))
 
-pub refusal-back : (r : Refusal) → refusalAt (numberOf r) (lineOf r) ≡ r
+pub refusal-back : (r : Refusal) → refusalAt (numberOf r) (lineNamed r) ≡ r
 unfolding refusalAt
 refusal-back Memory = refl
 refusal-back Block = refl
@@ -40,7 +40,7 @@ refusal-back Output = refl
 refusal-back Protected = refl
 refusal-back File = refl
 
-pub refusal-injective : (r s : Refusal) → numberOf r ≡ numberOf s → lineOf r ≡ lineOf s → r ≡ s
+pub refusal-injective : (r s : Refusal) → numberOf r ≡ numberOf s → lineNamed r ≡ lineNamed s → r ≡ s
 refusal-injective r s n l = sym (refusal-back r) ∙ ap₂ refusalAt n l ∙ refusal-back s
 
 -- no refusal has the number 0

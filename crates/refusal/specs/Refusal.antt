@@ -20,17 +20,17 @@ numberOf Protected = 12
 numberOf File = 13
 
 -- "Refusal numbers", row 10: the first malformed line's number is given; no other row names a line
-abbrev pub lineOf : Refusal → ℕ
-lineOf Memory = 0
-lineOf Block = 0
-lineOf Reply = 0
-lineOf State = 0
-lineOf Request = 0
-lineOf Work = 0
-lineOf Image = 0
-lineOf Card = 0
-lineOf Text = 0
-lineOf (Line k) = k
-lineOf Output = 0
-lineOf Protected = 0
-lineOf File = 0
+abbrev pub lineNamed : Refusal → ℕ
+lineNamed Memory = 0
+lineNamed Block = 0
+lineNamed Reply = 0
+lineNamed State = 0
+lineNamed Request = 0
+lineNamed Work = 0
+lineNamed Image = 0
+lineNamed Card = 0
+lineNamed Text = 0
+lineNamed (Line k) = k
+lineNamed Output = 0
+lineNamed Protected = 0
+lineNamed File = 0

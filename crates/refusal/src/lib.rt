@@ -1,6 +1,6 @@
-// Every refusal of every call, in one enum: its number, and the line that it names.
+// Every refusal of every call, in one enum, with its number and the line that it names; and the answers that a refusal can be part of.
 ghost use mathlib.Core.Path.{_≡_};
-ghost use Rattle.refusal.specs.Refusal.{numberOf, lineOf};
+ghost use Rattle.refusal.specs.Refusal.{numberOf, lineNamed};
 
 pub enum Refusal {
     Memory,
@@ -16,6 +16,18 @@ pub enum Refusal {
     Output,
     Protected,
     File,
+}
+
+// Whether a call is taken.
+pub enum Admission {
+    Admitted,
+    Refused(Refusal),
+}
+
+// What a call with an output answers: how many bytes, or why none.
+pub enum Done {
+    Bytes(usize),
+    Refused(Refusal),
 }
 
 impl Refusal {
@@ -42,7 +54,7 @@ impl Refusal {
 
     // The line of the text that is at fault, from 1, or 0 where the refusal names none.
     pub fn line(self) -> usize
-        ensures { λ r. ⌜ r ≡ lineOf self ⌝ }
+        ensures { λ r. ⌜ r ≡ lineNamed self ⌝ }
     {
         match self {
             Refusal::Memory => 0,

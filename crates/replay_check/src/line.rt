@@ -1,7 +1,7 @@
 // The line of a job: the verdict's report, and for a refusal the digest of the work area behind it.
 use crate::bytes;
-use job::Done;
 use libc::STDOUT_FILENO;
+use refusal::Done;
 use verdict::Verdict;
 
 // Room for a report.

@@ -1,6 +1,6 @@
 // A line of the output: a letter and four numbers.
-use job::Done;
 use libc::STDOUT_FILENO;
+use refusal::Done;
 
 fn number(done: Done) -> u64 {
     match done {

@@ -1,6 +1,6 @@
 // The line of a vector: three numbers.
-use job::Done;
 use libc::STDOUT_FILENO;
+use refusal::Done;
 
 fn number(done: Done) -> u64 {
     match done {

@@ -1,5 +1,4 @@
 pub mod Supply
-pub mod Decimal
 pub mod Line
 pub mod Reading
 pub mod Order

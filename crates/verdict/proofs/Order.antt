@@ -12,11 +12,13 @@ use Rattle.refusal.specs.declared.Refusal.the-variants.{Work, Image, Card}
 use Rattle.refusal.specs.Order.{firstOf}
 use Rattle.refusal.proofs.Order.{behind, first-here}
 use Rattle.loader.proofs.Order.{refusedBy}
-use Rattle.job.specs.declared.Done.{Done}
-use Rattle.job.specs.declared.Done.the-variants.{Bytes, Refused}
-use Rattle.job.specs.Calls.{told, measureOf}
+use Rattle.refusal.specs.declared.Done.{Done}
+use Rattle.refusal.specs.declared.Done.the-variants.{Bytes, Refused}
+use Rattle.refusal.specs.Delivery.{inNumbers}
+use Rattle.job.specs.Calls.{measureOf}
 use Rattle.job.proofs.Order.{textFaults, measure-order}
-use Rattle.verdict.specs.Checked.{workBytes, supplied, readable, checkable}
+use Rattle.board.specs.Supply.{supplied}
+use Rattle.verdict.specs.Checked.{workBytes, readable, checkable}
 
 -- rows 7 and 8: the image is empty or too long; the card has another length than the option bytes
 abbrev pub supplyFaults : ℕ → ℕ → ℕ → List (Refusal × Bool)
@@ -26,7 +28,7 @@ supplyFaults n image card = (Image, eqb image 0 || ltb (flashBytes n) image) ∷
 abbrev pub checkFaults : ℕ → List ℕ → ℕ → ℕ → ℕ → List (Refusal × Bool)
 checkFaults n t image card work = (Work, not (eqb work (workBytes n))) ∷ supplyFaults n image card ++ textFaults t
 
-readable-number : (d : Done) → refusedBy (readable d) ≡ getD (told d) 0 0
+readable-number : (d : Done) → refusedBy (readable d) ≡ getD (inNumbers d) 0 0
 readable-number (Bytes size) = refl
 readable-number (Refused r) = refl
 

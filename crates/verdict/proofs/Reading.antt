@@ -10,8 +10,9 @@ use Rattle.refusal.specs.declared.Refusal.the-variants.{Line}
 use Rattle.refusal.proofs.Numbers.{refusalAt, refusal-back}
 use Rattle.verdict.specs.declared.Verdict.{Verdict}
 use Rattle.verdict.specs.declared.Verdict.the-variants as verdict
-use Rattle.verdict.specs.Report.{kindOf, numberOf, digitsOf, decimalOf, tab, lineFeed, reportOf}
-use Rattle.verdict.proofs.Decimal.{readOn, digitsIn, behind, decimal-behind, field-read}
+use Rattle.decimal.specs.Decimal.{digitsOf, decimalOf}
+use Rattle.verdict.specs.Report.{kindField, numberField, tab, lineFeed, reportLine}
+use Rattle.decimal.proofs.Decimal.{readOn, digitsIn, behind, decimal-behind, field-read}
 
 -- the verdict of a word's third letter, a kind and a number
 unfoldable pub verdictFor : ℕ → ℕ → ℕ → Verdict
@@ -51,23 +52,23 @@ module _ (k n : ℕ) where
   told letter = ap₂ (verdictFor letter) kind-in number-in
 
 -- Reading a verdict's line gives the verdict back.
-pub report-read : (v : Verdict) → verdictIn (reportOf v) ≡ v
-unfolding verdictIn reportOf verdictFor fields
+pub report-read : (v : Verdict) → verdictIn (reportLine v) ≡ v
+unfolding verdictIn reportLine verdictFor fields
 report-read verdict.Pass = told 0 0 67
 report-read (verdict.Event k) = told 1 k 74
 report-read (verdict.End c) = told 2 c 74
 report-read (verdict.Flash f) = told 3 f 74
-report-read (verdict.Refused r) = told (kindOf (verdict.Refused r)) (numberOf (verdict.Refused r)) 70 ∙ ap verdict.Refused (refusal-back r)
+report-read (verdict.Refused r) = told (kindField (verdict.Refused r)) (numberField (verdict.Refused r)) 70 ∙ ap verdict.Refused (refusal-back r)
 
 -- Two verdicts with the same line are the same verdict.
-pub report-injective : (v w : Verdict) → reportOf v ≡ reportOf w → v ≡ w
+pub report-injective : (v w : Verdict) → reportLine v ≡ reportLine w → v ≡ w
 report-injective v w e = sym (report-read v) ∙ ap verdictIn e ∙ report-read w
 
 -- Two lines, spelled out: `ACCEPT 0 0` and `REFUSE 10 12`, with their tabs.
-pub pass-line : reportOf verdict.Pass ≡ 65 ∷ 67 ∷ 67 ∷ 69 ∷ 80 ∷ 84 ∷ 9 ∷ 48 ∷ 9 ∷ 48 ∷ 10 ∷ []
-unfolding reportOf decimalOf digitsOf
+pub pass-line : reportLine verdict.Pass ≡ 65 ∷ 67 ∷ 67 ∷ 69 ∷ 80 ∷ 84 ∷ 9 ∷ 48 ∷ 9 ∷ 48 ∷ 10 ∷ []
+unfolding reportLine decimalOf digitsOf
 pass-line = refl
 
-pub refusal-line : reportOf (verdict.Refused (Line 12)) ≡ 82 ∷ 69 ∷ 70 ∷ 85 ∷ 83 ∷ 69 ∷ 9 ∷ 49 ∷ 48 ∷ 9 ∷ 49 ∷ 50 ∷ 10 ∷ []
-unfolding reportOf decimalOf digitsOf
+pub refusal-line : reportLine (verdict.Refused (Line 12)) ≡ 82 ∷ 69 ∷ 70 ∷ 85 ∷ 83 ∷ 69 ∷ 9 ∷ 49 ∷ 48 ∷ 9 ∷ 49 ∷ 50 ∷ 10 ∷ []
+unfolding reportLine decimalOf digitsOf
 refusal-line = refl

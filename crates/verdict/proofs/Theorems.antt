@@ -9,20 +9,20 @@ use borrow.Author.Tests.{eq-eqb, ne-eqb, eqb-true, lt-ltb, le-ltb, not-false}
 use Rattle.laws.proofs.Split.{by-eq, by-lt}
 use Rattle.board.specs.Layout.{flashFirst, flashBytes}
 use Rattle.refusal.specs.declared.Refusal.{Refusal}
-use Rattle.loader.specs.declared.Admission.{Admission}
-use Rattle.loader.specs.declared.Admission.the-variants as admission
-use Rattle.job.specs.declared.Done.{Done}
+use Rattle.refusal.specs.declared.Admission.{Admission}
+use Rattle.refusal.specs.declared.Admission.the-variants as admission
+use Rattle.refusal.specs.declared.Done.{Done}
 use Rattle.job.specs.Event.{Event}
 use Rattle.job.specs.Text.{eventsOf}
-use Rattle.job.specs.Calls.{left, delivered}
-use Rattle.job.proofs.Answers.{left-injective}
-use Rattle.job.proofs.FirstLine.{same-refl, same-eq}
+use Rattle.refusal.specs.Delivery.{delivery, delivered}
+use Rattle.refusal.proofs.Delivery.{delivery-injective}
+use Rattle.laws.proofs.Lists.{same-refl, same-eq}
 use Rattle.verdict.specs.declared.Verdict.{Verdict}
 use Rattle.verdict.specs.declared.Verdict.the-variants as verdict
 use Rattle.verdict.specs.World.{World, Fresh, after, failsAt}
 use Rattle.verdict.specs.Verdict.{endFails, endFault, pagesEnd, wantedAt, wrongAt, OnSome, OnNone, Least, Judged}
 use Rattle.verdict.specs.Checked.{checkable, Ruled, Checked}
-use Rattle.verdict.specs.Report.{reportOf}
+use Rattle.verdict.specs.Report.{reportLine}
 use Rattle.verdict.specs.Demand.{Works, AllWork}
 use Rattle.verdict.proofs.Supply.{checkable-parts}
 
@@ -140,8 +140,8 @@ one-area n t image card w v u x y r e a b =
     p .1 ∙ sym (q .1)
 
 -- Any two outcomes, answer and buffer, that the promise of `report` allows are equal.
-pub one-report : (v : Verdict) (out x y : List ℕ) (r s : Done) → left r x ≡ delivered (reportOf v) out → left s y ≡ delivered (reportOf v) out → (r ≡ s) × (x ≡ y)
-one-report v out x y r s a b = left-injective r s x y (a ∙ sym b)
+pub one-report : (v : Verdict) (out x y : List ℕ) (r s : Done) → delivery r x ≡ delivered (reportLine v) out → delivery s y ≡ delivered (reportLine v) out → (r ≡ s) × (x ≡ y)
+one-report v out x y r s a b = delivery-injective r s x y (a ∙ sym b)
 
 -- The third demand: where `check` does not refuse, it answers Pass exactly when every board works.
 pub demand-three : (n : ℕ) (t image card w : List ℕ) (v : Verdict) (x : List ℕ) → checkable n t (length image) (length card) (length w) ≡ admission.Admitted → Checked n t image card w v x → (v ≡ verdict.Pass → AllWork n (eventsOf t) image card) × (AllWork n (eventsOf t) image card → v ≡ verdict.Pass)

@@ -6,12 +6,13 @@ use Prim.Native.Nat.{ℕ, _+_}
 use lib.Dec.{eqb, ltb}
 use lib.ListN.{length}
 use Rattle.board.specs.Layout.{flashBytes, optionBytes, memoryBytes}
+use Rattle.board.specs.Supply.{supplied}
 use Rattle.refusal.specs.declared.Refusal.the-variants as refusal
 use Rattle.request.specs.Request.{transferBytes}
-use Rattle.loader.specs.declared.Admission.{Admission}
-use Rattle.loader.specs.declared.Admission.the-variants as admission
-use Rattle.job.specs.declared.Done.{Done}
-use Rattle.job.specs.declared.Done.the-variants.{Bytes, Refused}
+use Rattle.refusal.specs.declared.Admission.{Admission}
+use Rattle.refusal.specs.declared.Admission.the-variants as admission
+use Rattle.refusal.specs.declared.Done.{Done}
+use Rattle.refusal.specs.declared.Done.the-variants.{Bytes, Refused}
 use Rattle.job.specs.Text.{eventsOf}
 use Rattle.job.specs.Calls.{measureOf}
 use Rattle.verdict.specs.declared.Verdict.{Verdict}
@@ -21,12 +22,6 @@ use Rattle.verdict.specs.Verdict.{Judged}
 -- row 6: the work area has room for memory twice and for a block
 abbrev pub workBytes : ℕ → ℕ
 workBytes n = memoryBytes n + memoryBytes n + transferBytes
-
--- rows 7 and 8, for the lengths of image and card
-unfoldable pub supplied : ℕ → ℕ → ℕ → Admission
-supplied n image card =
-    cond (eqb image 0 || ltb (flashBytes n) image) (admission.Refused refusal.Image)
-    (cond (not (eqb card optionBytes)) (admission.Refused refusal.Card) admission.Admitted)
 
 -- rows 9 and 10 are the reader's
 abbrev pub readable : Done → Admission

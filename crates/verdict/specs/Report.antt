@@ -7,39 +7,31 @@ use Rattle.laws.specs.Ascii.{ascii}
 use Rattle.refusal.specs.Refusal as refusal
 use Rattle.verdict.specs.declared.Verdict.{Verdict}
 use Rattle.verdict.specs.declared.Verdict.the-variants as verdict
+use Rattle.decimal.specs.Decimal.{decimalOf}
 
 -- "word": `ACCEPT` for Pass, `REFUSE` for a refusal, else `REJECT`
-abbrev pub wordOf : Verdict → List ℕ
-wordOf verdict.Pass = ascii "ACCEPT"
-wordOf (verdict.Event k) = ascii "REJECT"
-wordOf (verdict.End c) = ascii "REJECT"
-wordOf (verdict.Flash f) = ascii "REJECT"
-wordOf (verdict.Refused r) = ascii "REFUSE"
+abbrev pub wordField : Verdict → List ℕ
+wordField verdict.Pass = ascii "ACCEPT"
+wordField (verdict.Event k) = ascii "REJECT"
+wordField (verdict.End c) = ascii "REJECT"
+wordField (verdict.Flash f) = ascii "REJECT"
+wordField (verdict.Refused r) = ascii "REFUSE"
 
 -- "kind": 0; 1, 2, 3; a refusal's number
-abbrev pub kindOf : Verdict → ℕ
-kindOf verdict.Pass = 0
-kindOf (verdict.Event k) = 1
-kindOf (verdict.End c) = 2
-kindOf (verdict.Flash f) = 3
-kindOf (verdict.Refused r) = refusal.numberOf r
+abbrev pub kindField : Verdict → ℕ
+kindField verdict.Pass = 0
+kindField (verdict.Event k) = 1
+kindField (verdict.End c) = 2
+kindField (verdict.Flash f) = 3
+kindField (verdict.Refused r) = refusal.numberOf r
 
 -- "number": 0; k, c, f; a refusal's line, "line 0 where the refusal names none"
-abbrev pub numberOf : Verdict → ℕ
-numberOf verdict.Pass = 0
-numberOf (verdict.Event k) = k
-numberOf (verdict.End c) = c
-numberOf (verdict.Flash f) = f
-numberOf (verdict.Refused r) = refusal.lineOf r
-
--- the decimal digits of n, if they are no more than the first number
-unfoldable pub digitsOf : ℕ → ℕ → List ℕ
-digitsOf zero n = []
-digitsOf (suc k) n = cond (ltb n 10) ((48 + n) ∷ []) (digitsOf k (n / 10) ++ ((48 + n % 10) ∷ []))
-
--- n in decimal, without leading zeros: it has no more than n + 1 digits
-unfoldable pub decimalOf : ℕ → List ℕ
-decimalOf n = digitsOf (suc n) n
+abbrev pub numberField : Verdict → ℕ
+numberField verdict.Pass = 0
+numberField (verdict.Event k) = k
+numberField (verdict.End c) = c
+numberField (verdict.Flash f) = f
+numberField (verdict.Refused r) = refusal.lineNamed r
 
 -- "tab-parted"
 abbrev pub tab : List ℕ
@@ -50,5 +42,5 @@ abbrev pub lineFeed : List ℕ
 lineFeed = 10 ∷ []
 
 -- "one line of three tab-parted fields: word, kind, number"
-unfoldable pub reportOf : Verdict → List ℕ
-reportOf v = wordOf v ++ tab ++ decimalOf (kindOf v) ++ tab ++ decimalOf (numberOf v) ++ lineFeed
+unfoldable pub reportLine : Verdict → List ℕ
+reportLine v = wordField v ++ tab ++ decimalOf (kindField v) ++ tab ++ decimalOf (numberField v) ++ lineFeed

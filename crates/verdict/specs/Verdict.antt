@@ -5,11 +5,12 @@ use mathlib.Core.List.{List}
 use Prim.Native.Nat.{ℕ, suc, _+_, _-_, _*_, _/_, _<_}
 use lib.Dec.{eqb, ltb}
 use lib.ListN.{length, drop, getD}
-use Rattle.board.specs.Layout.{pageBytes, flashFirst, flashBytes, optionsFrom}
+use Rattle.board.specs.Layout.{pageBytes, flashFirst, flashBytes, optionsFrom, pagesOf}
 use Rattle.device.specs.declared.Device.{Device}
 use Rattle.device.specs.declared.Mode.{Mode}
 use Rattle.device.specs.declared.Mode.the-variants.{Idle, DownloadSync, DownloadBusy, DownloadIdle, ManifestSync, UploadIdle, Error, Left, Rebooting}
-use Rattle.job.specs.Event.{Event, same}
+use Rattle.laws.specs.Lists.{same}
+use Rattle.job.specs.Event.{Event}
 use Rattle.verdict.specs.declared.Verdict.{Verdict}
 use Rattle.verdict.specs.declared.Verdict.the-variants as verdict
 use Rattle.verdict.specs.World.{World, Fresh, after, failsAt}
@@ -37,10 +38,6 @@ endFails d kept c =
 -- condition c fails on the board w
 unfoldable pub endFault : ℕ → List ℕ → ℕ → World → Bool
 endFault n card c w = endFails (w .device) (same (drop (optionsFrom n) (w .memory)) card) c
-
--- how many pages so many bytes take, the last perhaps in part; the one place that rounds
-abbrev pub pagesOf : ℕ → ℕ
-pagesOf count = (count + (pageBytes - 1)) / pageBytes
 
 -- where the image's last page ends
 abbrev pub pagesEnd : List ℕ → ℕ

@@ -12,7 +12,7 @@ use Rattle.laws.proofs.Bytes.{put-length}
 use Rattle.request.specs.declared.Request.{Request}
 use Rattle.device.specs.declared.Mode.{Mode}
 use Rattle.hex.specs.Hex.{hexOf}
-use Rattle.verdict.specs.Report.{decimalOf}
+use Rattle.decimal.specs.Decimal.{decimalOf}
 use Rattle.words.specs.Words.{Said, left, saidOf, requestName, modeName, statusName, highFirst, addressOf}
 
 -- ys are as many of xs as there is room for

@@ -12,7 +12,7 @@ use Rattle.device.specs.declared.Mode.{Mode}
 use Rattle.device.specs.declared.Mode.the-variants as mode
 use Rattle.device.specs.Wire.{errTARGET, errWRITE, errVENDOR, errSTALLEDPKT}
 use Rattle.hex.specs.Hex.{hexOf}
-use Rattle.verdict.specs.Report.{decimalOf}
+use Rattle.decimal.specs.Decimal.{decimalOf}
 
 -- what a call leaves: the place behind its words, and the buffer
 pub record Said : Type 0 where

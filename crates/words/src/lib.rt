@@ -3,7 +3,7 @@
 // Each function gives the place behind what it wrote. What finds no room is left out, so that no
 // caller has to reckon how long a line becomes.
 ghost use mathlib.Core.Path.{_≡_};
-ghost use Rattle.verdict.specs.Report.{decimalOf};
+ghost use Rattle.decimal.specs.Decimal.{decimalOf};
 ghost use Rattle.words.specs.Words.{left, saidOf, requestName, modeName, statusName, highFirst, addressOf};
 use device::Device;
 use device::Mode;
@@ -79,7 +79,7 @@ pub fn decimal(number: usize, out: &mut [u8], at: usize) -> usize
     ensures { λ r. ⌜ left r (now (out .exit)) ≡ saidOf (decimalOf number) (now (out .entry)) at ⌝ }
 {
     let mut digits = [0u8; DIGITS];
-    let end = verdict::write_field(number, b' ', &mut digits, 0);
+    let end = decimal::write_field(number, b' ', &mut digits, 0);
     say(&digits[0..end - 1], out, at)
 }
 

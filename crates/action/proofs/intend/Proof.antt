@@ -34,11 +34,8 @@ unprotect-requires c κs = search needs
 enum-known-pending-3 : tie.Need-enum-known-pending-3
 enum-known-pending-3 c = search needs
 
-block-address-requires : tie.Need-block-address-requires
-block-address-requires c κs = search needs
-
-examine-requires : tie.Need-examine-requires
-examine-requires c κs = search needs
+examine-block-requires : tie.Need-examine-block-requires
+examine-block-requires c κs = search needs
 
 store-requires : tie.Need-store-requires
 store-requires c κs = search needs
@@ -66,8 +63,8 @@ returns-5 c = simp (c .unprotect .ensures, c .before .enum-told3 .given .1)
 returns-6 : tie.Need-returns-6
 unfolding actionOf
 returns-6 c =
-    let a = c .before .before in
-    simp (c .store .ensures, c .before .examine .ensures, a .block-address .ensures, a .before .before .pending3 .given .1)
+    let e = c .before in
+    simp (c .store .ensures, e .examine-block .ensures, e .before .before .pending3 .given .1)
 
 pub intend-spec : {M : Type 1} → statement M
 intend-spec =
@@ -83,8 +80,7 @@ intend-spec =
     enum-told-3
     unprotect-requires
     enum-known-pending-3
-    block-address-requires
-    examine-requires
+    examine-block-requires
     store-requires
     returns
     returns-2

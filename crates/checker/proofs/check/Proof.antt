@@ -1,7 +1,7 @@
 -- `checker::check` meets its contract. Assumes nothing.
 use mathlib.Core.Path.{refl}
 use native.Mathlib.Omega.{arith}
-use Rattle.hex.proofs.Bytes.{bytes-all}
+use Rattle.laws.proofs.Lists.{bytes-all}
 use Rattle.checker.proofs.Judging.{walk-ahead, checked-refused, checked-parts, checked-judged}
 use borrow.Author.Needs.{needs}
 use Rattle.checker.proofs.check.Statement.{statement}

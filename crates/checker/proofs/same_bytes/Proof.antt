@@ -1,7 +1,7 @@
 -- `checker::same_bytes` meets its contract. Assumes nothing.
 use native.Mathlib.Omega.{arith}
 use Rattle.checker.proofs.Alike.{same-turn, same-end}
-use Rattle.job.specs.Event.{same}
+use Rattle.laws.specs.Lists.{same}
 use lib.ListN.{length, drop}
 use Prim.Native.Nat.{_-_}
 use mathlib.Core.Bool.{_&&_}

@@ -9,13 +9,16 @@ use Rattle.checker.proofs.status.Tie as tie
 wire-requires : tie.Need-wire-requires
 wire-requires c κs = search needs
 
+nothing-ran-requires : tie.Need-nothing-ran-requires
+nothing-ran-requires c κs = search needs
+
 report-requires : tie.Need-report-requires
 report-requires c κs = search needs
 
 returns : tie.Need-returns
 returns c =
-    let is = c .before .before .wire .ensures in
-    c .report .ensures _ ∙ status-rests _ _ _ (λ e. c .before .if1 .taken (is ∙ e))
+    let w = c .before .before in
+    c .report .ensures _ ∙ rw (c .before .nothing-ran .ensures) (status-rests _ _ _ (λ e. w .if1 .taken (w .before .wire .ensures ∙ e)))
 
 read-protected-requires : tie.Need-read-protected-requires
 read-protected-requires c κs = search needs
@@ -51,6 +54,7 @@ status-spec =
     tie.close
     (tie.spec
     wire-requires
+    nothing-ran-requires
     report-requires
     returns
     read-protected-requires

@@ -7,11 +7,8 @@ use Rattle.checker.proofs.upload.Tie as tie
 read-protected-requires : tie.Need-read-protected-requires
 read-protected-requires c κs = search needs
 
-block-address-requires : tie.Need-block-address-requires
-block-address-requires c κs = search needs
-
-examine-requires : tie.Need-examine-requires
-examine-requires c κs = search needs
+examine-block-requires : tie.Need-examine-block-requires
+examine-block-requires c κs = search needs
 
 enum-told : tie.Need-enum-told
 enum-told c = search needs
@@ -49,30 +46,29 @@ going-requires-3 c κs = search needs
 returns : tie.Need-returns
 returns c =
     let e = c .before .before .before in
-    rw (c .falling .ensures) (read-moves _ _ _ _ _ _ _ _ (e .before .before .read-protected .ensures) (e .before .block-address .ensures) (e .examine .ensures) (c .before .enum-told .given .1))
+    rw (c .falling .ensures) (read-moves _ _ _ _ _ _ _ (e .before .read-protected .ensures) (e .examine-block .ensures) (c .before .enum-told .given .1))
 
 returns-2 : tie.Need-returns-2
 returns-2 c =
     let e = c .before .before .before .before in
-    rw (c .going .ensures, c .before .enter .ensures) (read-moves _ _ _ _ _ _ _ _ (e .before .before .read-protected .ensures) (e .before .block-address .ensures) (e .examine .ensures) (c .before .before .enum-told2 .given .1))
+    rw (c .going .ensures, c .before .enter .ensures) (read-moves _ _ _ _ _ _ _ (e .before .read-protected .ensures) (e .examine-block .ensures) (c .before .before .enum-told2 .given .1))
 
 returns-3 : tie.Need-returns-3
 returns-3 c =
     let e = c .before .before .before .before in
-    rw (c .going2 .ensures, c .before .enter2 .ensures) (read-moves _ _ _ _ _ _ _ _ (e .before .before .read-protected .ensures) (e .before .block-address .ensures) (e .examine .ensures) (c .before .before .enum-told3 .given .1))
+    rw (c .going2 .ensures, c .before .enter2 .ensures) (read-moves _ _ _ _ _ _ _ (e .before .read-protected .ensures) (e .examine-block .ensures) (c .before .before .enum-told3 .given .1))
 
 returns-4 : tie.Need-returns-4
 returns-4 c =
     let e = c .before .before .before .before in
-    rw (c .going3 .ensures, c .before .enter3 .ensures) (read-moves _ _ _ _ _ _ _ _ (e .before .before .read-protected .ensures) (e .before .block-address .ensures) (e .examine .ensures) (c .before .before .enum-told4 .given .1))
+    rw (c .going3 .ensures, c .before .enter3 .ensures) (read-moves _ _ _ _ _ _ _ (e .before .read-protected .ensures) (e .examine-block .ensures) (c .before .before .enum-told4 .given .1))
 
 pub upload-spec : {M : Type 1} → statement M
 upload-spec =
     tie.close
     (tie.spec
     read-protected-requires
-    block-address-requires
-    examine-requires
+    examine-block-requires
     enum-told
     falling-requires
     enum-told-2

@@ -11,8 +11,13 @@ use Rattle.loader.proofs.run.Tie as tie
 waits-requires : tie.Need-waits-requires
 waits-requires c κs = search needs
 
+nothing-ran-requires : tie.Need-nothing-ran-requires
+nothing-ran-requires c κs = search needs
+
 returns : tie.Need-returns
-returns c = run-rests _ _ _ _ (sym (c .before .waits .ensures) ∙ not-true _ (c .if1 .taken))
+returns c =
+    let w = c .before in
+    rw (c .nothing-ran .ensures) (run-rests _ _ _ _ (sym (w .before .waits .ensures) ∙ not-true _ (w .if1 .taken)))
 
 read-protected-requires : tie.Need-read-protected-requires
 read-protected-requires c κs = search needs
@@ -44,6 +49,7 @@ run-spec =
     tie.close
     (tie.spec
     waits-requires
+    nothing-ran-requires
     returns
     read-protected-requires
     intend-requires

@@ -1,7 +1,7 @@
 -- `words::decimal` meets its contract. Assumes nothing.
 use native.Mathlib.Omega.{arith}
 use Prim.Native.Nat.{_^_, _<_}
-use Rattle.verdict.proofs.Decimal.{digits-at-most}
+use Rattle.decimal.proofs.Decimal.{digits-at-most}
 use Rattle.words.proofs.Said.{decimal-said}
 use borrow.Author.Needs.{needs}
 use Rattle.words.proofs.decimal.Statement.{statement}

@@ -3,13 +3,13 @@ use mathlib.Core.Path.{_≡_, refl, _∙_, sym}
 use Prim.Native.Nat.{_-_, _≤_}
 use native.Mathlib.Omega.{arith}
 use borrow.Author.Needs.{needs}
-use Rattle.play_job.specs.Change.{firstOf}
+use Rattle.play_job.specs.Change.{firstChange}
 use Rattle.play_job.proofs.Places.{first-turn, first-stop, first-end}
 use Rattle.play_job.proofs.change.first.Statement.{statement}
 use Rattle.play_job.proofs.change.first.Tie as tie
 
 abbrev Inv-loop : tie.InvT-loop
-Inv-loop old new from to i₀ i = (firstOf old new (to - i) i ≡ firstOf old new (to - from) from) × (from ≤ i)
+Inv-loop old new from to i₀ i = (firstChange old new (to - i) i ≡ firstChange old new (to - from) from) × (from ≤ i)
 
 abbrev μ-loop : tie.MeasureT-loop
 μ-loop old new from to i₀ i = to - i

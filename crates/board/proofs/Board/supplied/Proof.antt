@@ -1,10 +1,10 @@
--- `verdict::supplied` meets its contract. Assumes nothing.
+-- `board::Board::supplied` meets its contract. Assumes nothing.
 use mathlib.Core.Path.{sym}
-use Rattle.verdict.specs.Checked.{supplied}
-use Rattle.verdict.proofs.Supply.{image-long, card-odd, supply-good}
+use Rattle.board.specs.Supply.{supplied}
+use Rattle.board.proofs.Supply.{image-long, card-odd, supply-good}
 use borrow.Author.Needs.{needs}
-use Rattle.verdict.proofs.supplied.Statement.{statement}
-use Rattle.verdict.proofs.supplied.Tie as tie
+use Rattle.board.proofs.Board.supplied.Statement.{statement}
+use Rattle.board.proofs.Board.supplied.Tie as tie
 
 returns : tie.Need-returns
 unfolding supplied

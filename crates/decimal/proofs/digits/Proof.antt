@@ -1,12 +1,12 @@
--- `verdict::digits` meets its contract. Assumes nothing.
+-- `decimal::digits` meets its contract. Assumes nothing.
 use mathlib.Core.Path.{_≡_, refl}
 use Prim.Native.Nat.{_+_, _^_, _≤_, _<_}
 use native.Mathlib.Omega.{arith}
 use lib.ListN.{length}
-use Rattle.verdict.specs.Report.{decimalOf}
-use Rattle.verdict.proofs.Decimal.{digits-one, digits-more, digits-at-most}
-use Rattle.verdict.proofs.digits.Statement.{statement}
-use Rattle.verdict.proofs.digits.Tie as tie
+use Rattle.decimal.specs.Decimal.{decimalOf}
+use Rattle.decimal.proofs.Decimal.{digits-one, digits-more, digits-at-most}
+use Rattle.decimal.proofs.digits.Statement.{statement}
+use Rattle.decimal.proofs.digits.Tie as tie
 
 abbrev Inv-loop : tie.InvT-loop
 Inv-loop number rest₀ count₀ rest count = (count + length (decimalOf rest) ≡ 1 + length (decimalOf number)) × (rest + count ≤ number + 1)

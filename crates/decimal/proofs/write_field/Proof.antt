@@ -1,15 +1,15 @@
--- `verdict::write_field` meets its contract. Assumes nothing.
+-- `decimal::write_field` meets its contract. Assumes nothing.
 use mathlib.Core.Path.{_≡_, refl, _∙_}
 use Prim.Native.Nat.{_+_, _≤_, _<_}
 use native.Mathlib.Omega.{arith}
 use borrow.Author.Needs.{needs}
 use lib.ListN.{length, length-set}
 use Rattle.laws.specs.Bytes.{put}
-use Rattle.verdict.specs.Report.{decimalOf}
-use Rattle.verdict.proofs.Decimal.{digits-one, digits-more}
-use Rattle.verdict.proofs.Line.{store-behind, field-turn, field-end}
-use Rattle.verdict.proofs.write_field.Statement.{statement}
-use Rattle.verdict.proofs.write_field.Tie as tie
+use Rattle.decimal.specs.Decimal.{decimalOf}
+use Rattle.decimal.proofs.Decimal.{digits-one, digits-more}
+use Rattle.decimal.proofs.Field.{store-behind, field-turn, field-end}
+use Rattle.decimal.proofs.write_field.Statement.{statement}
+use Rattle.decimal.proofs.write_field.Tie as tie
 
 abbrev Inv-loop : tie.InvT-loop
 Inv-loop number stop out₀ at end rest₀ i₀ out rest i = (put at (decimalOf rest) out ≡ put at (decimalOf number) out₀) × (i ≡ at + length (decimalOf rest)) × (i ≤ length out) × (length out ≡ length out₀)

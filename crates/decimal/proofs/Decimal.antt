@@ -9,7 +9,7 @@ use lib.Dec.{ltb}
 use lib.ListN.{length, length-append}
 use borrow.Author.Tests.{lt-ltb, le-ltb}
 use Rattle.laws.proofs.Split.{by-lt}
-use Rattle.verdict.specs.Report.{digitsOf, decimalOf}
+use Rattle.decimal.specs.Decimal.{digitsOf, decimalOf}
 
 -- more digits than there are change nothing
 digits-enough : (j k n : ℕ) → n ≤ j → n ≤ k → digitsOf (suc j) n ≡ digitsOf (suc k) n

@@ -1,0 +1,36 @@
+-- What access denies has a status of the error mode. Assumes nothing.
+use mathlib.Core.Path.{_≡_, refl}
+use mathlib.Core.Bool.{Bool, true, false, _&&_}
+use Prim.Native.Nat.{ℕ}
+use lib.Dec.{T, eqb, ltb}
+use Rattle.laws.proofs.Split.{by-bool}
+use Rattle.board.specs.declared.Place.{Place}
+use Rattle.board.specs.declared.Place.the-variants.{Flash, Ram, Options, Outside}
+use Rattle.board.specs.Layout.{optionsFrom, optionBytes}
+use Rattle.board.specs.Span.{placeOf}
+use Rattle.device.specs.declared.Mode.the-variants.{Error}
+use Rattle.device.specs.WellFormed.{statusFits}
+use Rattle.action.specs.declared.Access.{Access}
+use Rattle.action.specs.declared.Access.the-variants.{Denied, InFlash, InRam, InOptions}
+use Rattle.action.specs.Access.{blockAddress, checkedOf, accessOf, blockAccess}
+
+abbrev pub Refusing : Access → Type 0
+Refusing (Denied status) = statusFits Error status ≡ true
+Refusing (InFlash at) = T true
+Refusing (InRam at) = T true
+Refusing (InOptions at) = T true
+
+checked-refusing : (n count : ℕ) (place : Place) → Refusing (checkedOf n count place)
+checked-refusing n count (Flash at) = by-bool (ltb count 2) (λ e. rw e refl) (λ e. rw e tt)
+checked-refusing n count (Ram at) = by-bool (ltb count 2) (λ e. rw e refl) (λ e. rw e tt)
+checked-refusing n count (Options at) = by-bool (eqb at (optionsFrom n) && eqb count optionBytes) (λ e. rw e tt) (λ e. rw e refl)
+checked-refusing n count Outside = refl
+
+access-refusing : (n : ℕ) (protected : Bool) (address count : ℕ) → Refusing (accessOf n protected address count)
+unfolding accessOf
+access-refusing n true address count = refl
+access-refusing n false address count = checked-refusing n count (placeOf n address count)
+
+pub block-refusing : (n : ℕ) (protected : Bool) (block count pointer : ℕ) → Refusing (blockAccess n protected block count pointer)
+unfolding blockAccess
+block-refusing n protected block count pointer = access-refusing n protected (blockAddress block count pointer) count
