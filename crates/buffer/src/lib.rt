@@ -1,8 +1,9 @@
 // Actions on lent bytes: read one, lay some over others, fill a part.
 ghost use mathlib.Core.Path.{_≡_};
 ghost use Prim.Native.Nat.{_+_, _-_, _≤_};
-ghost use lib.ListN.{length, getD};
+ghost use lib.ListN.{length, getD, drop};
 ghost use Rattle.laws.specs.Bytes.{put, filled};
+ghost use Rattle.laws.specs.Lists.{same, allAre};
 
 // The byte at a place, or 0 past the end.
 pub fn byte_at(bytes: &[u8], at: usize) -> u8
@@ -36,4 +37,32 @@ pub fn fill(buffer: &mut [u8], from: usize, to: usize, byte: u8)
         buffer[i] = byte;
         i += 1;
     }
+}
+
+// Is each byte from place `from` up to place `to` this one? It looks at them all, so that many can be compared at a time.
+pub fn all_are(bytes: &[u8], from: usize, to: usize, byte: u8) -> bool
+    requires { ⌜ (from ≤ to) × (to ≤ length (now bytes)) ⌝ }
+    ensures { λ r. ⌜ r ≡ allAre byte (to - from) (drop from (now (bytes .entry))) ⌝ }
+{
+    let mut alike = true;
+    let mut i = from;
+    while i < to {
+        alike = alike & (bytes[i] == byte);
+        i += 1;
+    }
+    alike
+}
+
+// Are the bytes the same, one by one? It looks at them all too.
+pub fn same_bytes(these: &[u8], those: &[u8]) -> bool
+    requires { ⌜ length (now these) ≡ length (now those) ⌝ }
+    ensures { λ r. ⌜ r ≡ same (now (these .entry)) (now (those .entry)) ⌝ }
+{
+    let mut alike = true;
+    let mut i = 0;
+    while i < those.len() {
+        alike = alike & (these[i] == those[i]);
+        i += 1;
+    }
+    alike
 }

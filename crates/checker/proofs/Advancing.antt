@@ -23,9 +23,10 @@ use Rattle.job.proofs.EventText.{text-events}
 use Rattle.job.proofs.WalkEvents.{Beyond, Requested, formed-here, end-tells, bad-never, attach-tells, request-tells}
 use Rattle.cells.specs.Cells.{Over, fell, ended, falls, goes, requestMoves, moves, overOf}
 use Rattle.cells.proofs.InForm.{moves-form}
-use Rattle.checker.specs.declared.Step.{Step}
+use Rattle.area.specs.declared.Step.{Step}
 use Rattle.checker.specs.declared.Onward.{Onward}
-use Rattle.checker.specs.Walk.{movedAs, Ahead, Further, Advanced}
+use Rattle.checker.specs.Walk.{Ahead, Further, Advanced}
+use Rattle.area.specs.Moved.{movedAs}
 
 -- what stands at a place from which on the text is that of its events
 module _ (t : List ℕ) (at : ℕ) (a : Ahead t at) where

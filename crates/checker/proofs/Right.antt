@@ -14,8 +14,8 @@ use Rattle.laws.proofs.Lists.{same-eq}
 use Rattle.verdict.specs.Verdict.{pagesEnd}
 use Rattle.verdict.specs.Checked.{workBytes}
 use Rattle.cells.specs.Cells.{suspect, lowestFrom}
-use Rattle.checker.specs.Walk.{allAre}
-use Rattle.checker.proofs.Alike.{are-at}
+use Rattle.laws.specs.Lists.{allAre}
+use Rattle.buffer.proofs.Alike.{are-at}
 use Rattle.cells.proofs.Lowest.{lowest-none}
 use Rattle.checker.proofs.Walking.{suspect-image, suspect-rest, suspect-other}
 

@@ -8,13 +8,12 @@ use native.Mathlib.Numerals.{add-one}
 use lib.Dec.{eqb, ltb}
 use lib.ListN.{length, take, drop, getD}
 use borrow.Author.Tests.{lt-ltb, le-ltb}
-use Rattle.laws.specs.Bytes.{put}
 use Rattle.board.specs.Layout.{flashBytes, memoryBytes, optionsFrom, optionBytes}
 use Rattle.device.specs.declared.Device.{Device}
 use Rattle.laws.specs.Lists.{same}
 use Rattle.verdict.specs.declared.Verdict.the-variants as verdict
 use Rattle.verdict.specs.Verdict.{pagesEnd}
-use Rattle.cells.specs.Cells.{marked, learnt, begun, suspect, lowestFrom, flashVerdict, endNumber, endOr, endVerdict}
+use Rattle.cells.specs.Cells.{suspect, lowestFrom, flashVerdict, endNumber, endOr, endVerdict}
 
 pub lowest-found : (test : ℕ → Bool) (i e : ℕ) → i < e → test i ≡ true → i ≡ lowestFrom test (e - i) i
 unfolding lowestFrom
@@ -33,14 +32,6 @@ unfolding lowestFrom
 lowest-end test i e h =
     let k : e - i ≡ 0 = omega arith in
     rw k
-
--- the start of the work area: marks cleared, the card laid and marked
-pub begun-is : (n bytes options : ℕ) (card w w₁ w₂ w₃ : List ℕ) → bytes ≡ memoryBytes n → options ≡ optionsFrom n → length card ≡ optionBytes → w₁ ≡ marked n 0 (bytes - 0) 0 w → w₂ ≡ put options card w₁ → w₃ ≡ marked n options (options + optionBytes - options) 1 w₂ → w₃ ≡ begun n card w
-unfolding begun learnt
-begun-is n bytes options card w w₁ w₂ w₃ b o l e₁ e₂ e₃ =
-    let k : bytes - 0 ≡ bytes = omega arith in
-    let m : options + optionBytes - options ≡ length card = omega arith in
-    e₃ ∙ rw (e₂, e₁, m, k, o, b)
 
 -- the three kinds of place, each with its test, by the mark of the byte there
 module _ (n : ℕ) (image w : List ℕ) (f mark : ℕ) (b : mark ≡ getD w (memoryBytes n + f) 0) where

@@ -1,23 +1,17 @@
 -- How what the checker's inner functions answer is read: a device of the proof, which no public promise names. Assumes nothing.
 use mathlib.Core.Path.{_≡_}
-use mathlib.Core.Bool.{Bool, true, false, cond, _&&_}
-use mathlib.Core.List.{List, [], _∷_}
-use Prim.Native.Nat.{ℕ, zero, suc, _≤_, _<_}
-use lib.Dec.{eqb}
+use mathlib.Core.Bool.{true, false}
+use mathlib.Core.List.{List}
+use Prim.Native.Nat.{ℕ, suc, _≤_, _<_}
 use lib.ListN.{length, drop}
 use Rattle.device.specs.declared.Device.{Device}
 use Rattle.device.specs.WellFormed.{wellFormed}
 use Rattle.job.specs.Event.{proper, textOf}
 use Rattle.job.specs.Text.{eventsOf}
-use Rattle.cells.specs.Cells.{Moved, falls, goes, Over, fell, ended, overOf}
-use Rattle.checker.specs.declared.Step.{Step}
+use Rattle.cells.specs.Cells.{falls, goes, Over, fell, ended, overOf}
 use Rattle.checker.specs.declared.Onward.{Onward}
 use Rattle.checker.specs.declared.Outcome.{Outcome}
 use Rattle.checker.specs.declared.Outcome.the-variants as outcome
-
--- an event's outcome, with the work area that it left
-abbrev pub movedAs : Step → List ℕ → Moved
-movedAs s w = cond (s .falls) falls (goes (s .device) w)
 
 -- from a place on, the text is that of its events
 pub record Ahead (t : List ℕ) (at : ℕ) : Type 0 where
@@ -41,9 +35,3 @@ pub record Advanced (n : ℕ) (t : List ℕ) (at : ℕ) (d : Device) (w : List �
 abbrev pub overAs : Outcome → List ℕ → Over
 overAs (outcome.Fell k) w = fell k
 overAs (outcome.Ended d) w = ended d w
-
--- the first n of the bytes ms are all v
-unfoldable pub allAre : ℕ → ℕ → List ℕ → Bool
-allAre v zero ms = true
-allAre v (suc n) [] = true
-allAre v (suc n) (m ∷ ms) = eqb m v && allAre v n ms

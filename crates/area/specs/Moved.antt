@@ -1,0 +1,10 @@
+-- How what a request comes to is read: a device of the proof, which no public promise names. Assumes nothing.
+use mathlib.Core.Bool.{cond}
+use mathlib.Core.List.{List}
+use Prim.Native.Nat.{ℕ}
+use Rattle.cells.specs.Cells.{Moved, falls, goes}
+use Rattle.area.specs.declared.Step.{Step}
+
+-- an event's outcome, with the work area that it left
+abbrev pub movedAs : Step → List ℕ → Moved
+movedAs s w = cond (s .falls) falls (goes (s .device) w)
