@@ -1,6 +1,6 @@
 -- One turn of each loop over the work area. Assumes nothing.
 use mathlib.Core.Path.{_≡_, ap, _∙_, sym}
-use mathlib.Core.Bool.{Bool, true, false}
+use mathlib.Core.Bool.{true, false}
 use mathlib.Core.List.{List}
 use Prim.Native.Nat.{ℕ, suc, _+_, _-_, _*_, _≤_, _<_}
 use native.Mathlib.Omega.{arith}
@@ -14,7 +14,6 @@ use Rattle.board.specs.Layout.{pageBytes, memoryBytes, optionsFrom, optionBytes
 use Rattle.board.specs.Protection.{writeProtected}
 use Rattle.memory.specs.Flash.{kept, each, stored}
 use Rattle.memory.proofs.Flash.{stored-open, stored-kept, stored-end}
-use Rattle.laws.specs.Lists.{allAre}
 use Rattle.cells.specs.Cells.{marked, learnt, blockFrom, blockOf, pageErased, pagesErased, begun}
 
 -- the place behind a mark, which stands o places behind its byte
@@ -63,13 +62,6 @@ erase-end n word w page e h =
     let k : e - page ≡ 0 = omega arith in
     rw k
 
--- marks, by the place where they begin
-pub mark-is : (n from to known marks : ℕ) (w w′ : List ℕ) → marks ≡ memoryBytes n → w′ ≡ filled (marks + from) (marks + to - (marks + from)) known w → w′ ≡ marked n from (to - from) known w
-unfolding marked
-mark-is n from to known marks w w′ m e =
-    let k : marks + to - (marks + from) ≡ to - from = omega arith in
-    e ∙ rw (k, m)
-
 pub page-kept : (n word page : ℕ) (w : List ℕ) → writeProtected word page ≡ true → w ≡ pageErased n word page w
 unfolding pageErased
 page-kept n word page w e = rw e
@@ -100,12 +92,6 @@ store-end n word w₀ w at count block i b h room e =
     let l : length (take count (drop block w₀)) ≡ count = length-take-le count (drop block w₀) r in
     let past : length (take count (drop block w₀)) ≤ i = omega arith in
     sym (stored-end word w (take count (drop block w₀)) (at + i) i past) ∙ e ∙ ap (λ (k : ℕ). stored word at (take count (drop k w₀)) w₀) b
-
--- a part of the marks, by the place where they begin
-pub marks-are : (n from to known marks : ℕ) (w : List ℕ) (b : Bool) → marks ≡ memoryBytes n → b ≡ allAre known (marks + to - (marks + from)) (drop (marks + from) w) → b ≡ allAre known (to - from) (drop (memoryBytes n + from) w)
-marks-are n from to known marks w b m e =
-    let k : marks + to - (marks + from) ≡ to - from = omega arith in
-    e ∙ rw (k, m)
 
 -- the start of the work area: marks cleared, the card laid and marked
 pub begun-is : (n bytes options : ℕ) (card w w₁ w₂ w₃ : List ℕ) → bytes ≡ memoryBytes n → options ≡ optionsFrom n → length card ≡ optionBytes → w₁ ≡ marked n 0 (bytes - 0) 0 w → w₂ ≡ put options card w₁ → w₃ ≡ marked n options (options + optionBytes - options) 1 w₂ → w₃ ≡ begun n card w

@@ -17,10 +17,9 @@ ghost use Rattle.memory.specs.Flash.{each, stored};
 ghost use Rattle.memory.specs.Whole.{unprotected};
 ghost use Rattle.decision.specs.Decide.{commandOf, decideOf, isStatus};
 ghost use Rattle.hex.specs.Hex.{allDigits, bytesOf};
-ghost use Rattle.laws.specs.Lists.{allAre};
 ghost use Rattle.area.specs.Moved.{movedAs};
 ghost use Rattle.verdict.specs.Checked.{workBytes};
-ghost use Rattle.cells.specs.Cells.{blockFrom, marked, learnt, blockOf, pageErased, pagesErased, worked, workedOf, writes, reports, statusMoves, readsMoves, requestMoves, begun};
+ghost use Rattle.cells.specs.Cells.{learnt, blockOf, pageErased, pagesErased, worked, workedOf, writes, reports, statusMoves, readsMoves, requestMoves, begun};
 use action::Access;
 use action::Action;
 use board::Board;
@@ -31,47 +30,6 @@ use device::Mode;
 use device::Ran;
 use request::Setup;
 
-// The work area's block, behind values and marks.
-fn block_from(board: Board) -> usize
-    ensures { λ r. ⌜ r ≡ blockFrom (board .pages) ⌝ }
-{
-    board.memory_bytes() * 2
-}
-
-// How long a work area is.
-pub fn work_bytes(board: Board) -> usize
-    ensures { λ r. ⌜ r ≡ workBytes (board .pages) ⌝ }
-{
-    block_from(board) + Setup::TRANSFER as usize
-}
-
-// The marks of the bytes from place `from` up to place `to`: 1 where they are known, else 0.
-fn mark(board: Board, work: &mut [u8], from: usize, to: usize, known: u8)
-    requires { ⌜ (from ≤ to) × (to ≤ memoryBytes (board .pages)) × (length (now work) ≡ workBytes (board .pages)) ⌝ }
-    ensures { λ _. ⌜ now (work .exit) ≡ marked (board .pages) from (to - from) known (now (work .entry)) ⌝ }
-{
-    let marks = board.memory_bytes();
-    buffer::fill(work, marks + from, marks + to, known);
-}
-
-// The mark of the byte at place i.
-pub fn mark_of(board: Board, work: &[u8], i: usize) -> u8
-    requires { ⌜ (i < memoryBytes (board .pages)) × (length (now work) ≡ workBytes (board .pages)) ⌝ }
-    ensures { λ r. ⌜ r ≡ getD (now (work .entry)) (memoryBytes (board .pages) + i) 0 ⌝ }
-{
-    let marks = board.memory_bytes();
-    work[marks + i]
-}
-
-// Is each mark from place `from` up to place `to` this one?
-pub fn are_marked(board: Board, work: &[u8], from: usize, to: usize, known: u8) -> bool
-    requires { ⌜ (from ≤ to) × (to ≤ memoryBytes (board .pages)) × (length (now work) ≡ workBytes (board .pages)) ⌝ }
-    ensures { λ r. ⌜ r ≡ allAre known (to - from) (drop (memoryBytes (board .pages) + from) (now (work .entry))) ⌝ }
-{
-    let marks = board.memory_bytes();
-    buffer::all_are(work, marks + from, marks + to, known)
-}
-
 // Is each of `count` bytes from place `at` on known, but for those in write-protected pages?
 fn is_known(board: Board, work: &[u8], word: u32, at: usize, count: usize) -> bool
     requires { ⌜ (at + count ≤ memoryBytes (board .pages)) × (length (now work) ≡ workBytes (board .pages)) ⌝ }
@@ -80,7 +38,7 @@ fn is_known(board: Board, work: &[u8], word: u32, at: usize, count: usize) -> bo
     let end = at + count;
     let mut i = at;
     while i < end {
-        if mark_of(board, work, i) != 1 && !board::write_protected(word, i / Board::PAGE) {
+        if marks::mark_of(board, work, i) != 1 && !board::write_protected(word, i / Board::PAGE) {
             return false;
         }
         i += 1;
@@ -99,7 +57,7 @@ fn erase(board: Board, work: &mut [u8], word: u32, page: usize)
     let from = page * Board::PAGE;
     let to = from + Board::PAGE;
     buffer::fill(work, from, to, 0xFF);
-    mark(board, work, from, to, 1);
+    marks::mark(board, work, from, to, 1);
 }
 
 // All of the flash is erased on every board.
@@ -109,7 +67,7 @@ fn erase_flash(board: Board, work: &mut [u8])
 {
     let size = board.flash_bytes();
     buffer::fill(work, 0, size, 0xFF);
-    mark(board, work, 0, size, 1);
+    marks::mark(board, work, 0, size, 1);
 }
 
 // Every page is erased on every board, unless it is write-protected.
@@ -142,7 +100,7 @@ fn store(board: Board, work: &mut [u8], word: u32, at: usize, count: usize)
     requires { ⌜ (at + count ≤ memoryBytes (board .pages)) × (count ≤ transferBytes) × (length (now work) ≡ workBytes (board .pages)) ⌝ }
     ensures { λ _. ⌜ now (work .exit) ≡ stored word at (blockOf (board .pages) count (now (work .entry))) (now (work .entry)) ⌝ }
 {
-    let block = block_from(board);
+    let block = marks::block_from(board);
     let mut i = 0;
     while i < count {
         if !board::write_protected(word, (at + i) / Board::PAGE) {
@@ -157,7 +115,7 @@ fn copy(board: Board, work: &mut [u8], at: usize, count: usize)
     requires { ⌜ (at + count ≤ memoryBytes (board .pages)) × (count ≤ transferBytes) × (length (now work) ≡ workBytes (board .pages)) ⌝ }
     ensures { λ _. ⌜ now (work .exit) ≡ put at (blockOf (board .pages) count (now (work .entry))) (now (work .entry)) ⌝ }
 {
-    let block = block_from(board);
+    let block = marks::block_from(board);
     let mut i = 0;
     while i < count {
         work[at + i] = work[block + i];
@@ -202,7 +160,7 @@ fn write(board: Board, work: &mut [u8], word: u32, at: usize, count: usize) -> u
     if !buffer::all_are(work, at, end, 0xFF) {
         return Device::WRITE;
     }
-    if !are_marked(board, work, at, end, 1) {
+    if !marks::are_marked(board, work, at, end, 1) {
         return Device::WRITE;
     }
     copy(board, work, at, count);
@@ -215,7 +173,7 @@ fn keep(board: Board, work: &mut [u8], at: usize, count: usize)
     ensures { λ _. ⌜ now (work .exit) ≡ learnt (board .pages) at (blockOf (board .pages) count (now (work .entry))) (now (work .entry)) ⌝ }
 {
     copy(board, work, at, count);
-    mark(board, work, at, at + count, 1);
+    marks::mark(board, work, at, at + count, 1);
 }
 
 // Read unprotect of a protected board: all of memory is known then.
@@ -225,7 +183,7 @@ fn unprotect(board: Board, work: &mut [u8])
 {
     let bytes = board.memory_bytes();
     memory::unprotect(board, &mut work[0..bytes]);
-    mark(board, work, 0, bytes, 1);
+    marks::mark(board, work, 0, bytes, 1);
 }
 
 fn clear_ram(board: Board, work: &mut [u8])
@@ -235,7 +193,7 @@ fn clear_ram(board: Board, work: &mut [u8])
     let from = board.ram_from();
     let to = from + Board::RAM_BYTES;
     buffer::fill(work, from, to, 0);
-    mark(board, work, from, to, 1);
+    marks::mark(board, work, from, to, 1);
 }
 
 // An action on every board; the answer is its status.
@@ -389,7 +347,7 @@ fn decided(board: Board, device: Device, setup: Setup, field: &[u8], work: &mut 
         Decision::Stall(_) => falling(device),
         Decision::Accept(next) => going(next),
         Decision::Take(next) => {
-            hex::decode(field, work, block_from(board));
+            hex::decode(field, work, marks::block_from(board));
             going(next)
         }
         Decision::Commands { next, count: _ } => going(next),
@@ -406,7 +364,7 @@ pub fn begin(board: Board, card: &[u8], work: &mut [u8])
     ensures { λ _. ⌜ now (work .exit) ≡ begun (board .pages) (now (card .entry)) (now (work .entry)) ⌝ }
 {
     let options = board.options_from();
-    mark(board, work, 0, board.memory_bytes(), 0);
+    marks::mark(board, work, 0, board.memory_bytes(), 0);
     buffer::put(work, options, card);
-    mark(board, work, options, options + Board::OPTION_BYTES, 1);
+    marks::mark(board, work, options, options + Board::OPTION_BYTES, 1);
 }

@@ -28,7 +28,7 @@ fn is_suspect(board: Board, image: &[u8], work: &[u8], f: usize) -> bool
     requires { ⌜ (length (now work) ≡ workBytes (board .pages)) × (f < flashBytes (board .pages)) × (length (now image) ≤ flashBytes (board .pages)) ⌝ }
     ensures { λ r. ⌜ r ≡ suspect (board .pages) (now (image .entry)) (now (work .entry)) f ⌝ }
 {
-    let mark = area::mark_of(board, work, f);
+    let mark = marks::mark_of(board, work, f);
     if f < image.len() {
         return differs(mark, work[f], image[f]);
     }
@@ -61,10 +61,10 @@ fn is_right(board: Board, image: &[u8], work: &[u8]) -> bool
     if !buffer::all_are(work, image.len(), end, 0xFF) {
         return false;
     }
-    if !area::are_marked(board, work, 0, end, 1) {
+    if !marks::are_marked(board, work, 0, end, 1) {
         return false;
     }
-    area::are_marked(board, work, end, size, 0)
+    marks::are_marked(board, work, end, size, 0)
 }
 
 // The lowest suspect offset, or the size of the flash.
@@ -238,7 +238,7 @@ fn judge(board: Board, job: &[u8], image: &[u8], card: &[u8], work: &mut [u8]) -
 fn admit(board: Board, job: &[u8], image: usize, card: usize, work: usize) -> Admission
     ensures { λ r. ⌜ r ≡ checkable (board .pages) (now (job .entry)) image card work ⌝ }
 {
-    if work != area::work_bytes(board) {
+    if work != marks::work_bytes(board) {
         return Admission::Refused(Refusal::Work);
     }
     let supplied = board.supplied(image, card);

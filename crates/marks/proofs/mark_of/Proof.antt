@@ -1,7 +1,7 @@
--- `area::mark_of` meets its contract. Assumes nothing.
+-- `marks::mark_of` meets its contract. Assumes nothing.
 use borrow.Author.Needs.{needs}
-use Rattle.area.proofs.mark_of.Statement.{statement}
-use Rattle.area.proofs.mark_of.Tie as tie
+use Rattle.marks.proofs.mark_of.Statement.{statement}
+use Rattle.marks.proofs.mark_of.Tie as tie
 
 memory-bytes-requires : tie.Need-memory-bytes-requires
 memory-bytes-requires c κs = search needs

@@ -1,8 +1,8 @@
--- `area::mark` meets its contract. Assumes nothing.
-use Rattle.area.proofs.Loops.{mark-is}
+-- `marks::mark` meets its contract. Assumes nothing.
+use Rattle.marks.proofs.Marks.{mark-is}
 use borrow.Author.Needs.{needs}
-use Rattle.area.proofs.mark.Statement.{statement}
-use Rattle.area.proofs.mark.Tie as tie
+use Rattle.marks.proofs.mark.Statement.{statement}
+use Rattle.marks.proofs.mark.Tie as tie
 
 memory-bytes-requires : tie.Need-memory-bytes-requires
 memory-bytes-requires c κs = search needs

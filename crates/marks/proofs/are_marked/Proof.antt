@@ -1,8 +1,8 @@
--- `area::are_marked` meets its contract. Assumes nothing.
-use Rattle.area.proofs.Loops.{marks-are}
+-- `marks::are_marked` meets its contract. Assumes nothing.
+use Rattle.marks.proofs.Marks.{marks-are}
 use borrow.Author.Needs.{needs}
-use Rattle.area.proofs.are_marked.Statement.{statement}
-use Rattle.area.proofs.are_marked.Tie as tie
+use Rattle.marks.proofs.are_marked.Statement.{statement}
+use Rattle.marks.proofs.are_marked.Tie as tie
 
 memory-bytes-requires : tie.Need-memory-bytes-requires
 memory-bytes-requires c κs = search needs
