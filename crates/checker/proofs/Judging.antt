@@ -15,11 +15,11 @@ use Rattle.refusal.specs.declared.Done.{Done}
 use Rattle.refusal.specs.declared.Done.the-variants.{Bytes, Refused}
 use Rattle.laws.specs.Lists.{allBytes}
 use Rattle.job.specs.Event.{Event, attach, request, fits, proper}
-use Rattle.job.specs.Text.{firstBad, eventsOf}
+use Rattle.job.specs.Text.{eventsOf}
 use Rattle.refusal.specs.Delivery.{inNumbers}
 use Rattle.job.specs.Calls.{measureOf}
 use Rattle.refusal.proofs.Delivery.{numbers-injective}
-use Rattle.job.proofs.EventText.{proper-parts, good-text, good-proper}
+use Rattle.job.proofs.EventText.{proper-parts, good-proper}
 use Rattle.verdict.specs.declared.Verdict.{Verdict}
 use Rattle.verdict.specs.declared.Verdict.the-variants as verdict
 use Rattle.board.specs.Supply.{supplied}
@@ -31,7 +31,7 @@ use Rattle.cells.proofs.Runs.{AllFit}
 use Rattle.cells.proofs.Judgement.{judged}
 use Rattle.checker.specs.declared.Outcome.{Outcome}
 use Rattle.checker.specs.declared.Outcome.the-variants as outcome
-use Rattle.checker.specs.Walk.{Ahead, overAs}
+use Rattle.checker.specs.Walk.{overAs}
 
 -- a run's outcome r with the work area w₂, from the work area w₁ that begins with the card
 module _ (n : ℕ) (es : List Event) (image card w w₁ w₂ : List ℕ) (r : Outcome) (start : w₁ ≡ begun n card w) (ran : overAs r w₂ ≡ overOf n es started w₁ 0) where
@@ -70,10 +70,6 @@ module _ (n : ℕ) (t : List ℕ) (image card work : ℕ) where
 
     pub checkable-readable : (a : Admission) → s ≡ admission.Admitted → a ≡ readable (measureOf t) → a ≡ checkable n t image card work
     checkable-readable a so r = r ∙ sym (checkable-then ∙ ap (λ (x : Admission). then x (readable (measureOf t))) so)
-
--- where a call is admitted, the walk begins with all of its events
-pub walk-ahead : (t : List ℕ) → firstBad t ≡ 0 → Ahead t 0
-walk-ahead t h = record { text = sym (good-text t h); right = good-proper t h }
 
 event-fits : (e : Event) → fits e ≡ true → Fitting e
 unfolding fits

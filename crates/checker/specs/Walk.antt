@@ -6,17 +6,15 @@ use Prim.Native.Nat.{ℕ, suc, _≤_, _<_}
 use lib.ListN.{length, drop}
 use Rattle.device.specs.declared.Device.{Device}
 use Rattle.device.specs.WellFormed.{wellFormed}
-use Rattle.job.specs.Event.{proper, textOf}
-use Rattle.job.specs.Text.{eventsOf}
-use Rattle.cells.specs.Cells.{falls, goes, Over, fell, ended, overOf}
+use Rattle.job.specs.Text.{firstBad, eventsOf}
+use Rattle.cells.specs.Cells.{Over, fell, ended, overOf}
 use Rattle.checker.specs.declared.Onward.{Onward}
 use Rattle.checker.specs.declared.Outcome.{Outcome}
 use Rattle.checker.specs.declared.Outcome.the-variants as outcome
 
--- from a place on, the text is that of its events
-pub record Ahead (t : List ℕ) (at : ℕ) : Type 0 where
-  pub text : drop at t ≡ textOf (eventsOf (drop at t))
-  pub right : proper (eventsOf (drop at t)) ≡ true
+-- from a place on, the text has no malformed line
+abbrev pub Ahead : List ℕ → ℕ → Type 0
+Ahead t at = firstBad (drop at t) ≡ 0
 
 -- one event further, with the device d′ and the work area w′, the events behind it come to the same
 pub record Further (n : ℕ) (t : List ℕ) (at : ℕ) (d : Device) (w : List ℕ) (d′ : Device) (behind : ℕ) (w′ : List ℕ) : Type 0 where

@@ -34,25 +34,25 @@ module _ (q : List ℕ) (f : fitsOf q ≡ true) (y : allBytes q ≡ true) where
   request-formed =
       formed-spelled (take 8 q) (drop 8 q) (length-take-le 8 q (fits-eight q f)) (bytes-take 8 q y) (bytes-drop 8 q y) (ap fitsOf halves ∙ f)
 
-pub line-event : (e : Event) → fits e ≡ true → inBytes e ≡ true → eventOf (lineOf e) ≡ e
+line-event : (e : Event) → fits e ≡ true → inBytes e ≡ true → eventOf (lineOf e) ≡ e
 unfolding fits inBytes eventOf lineOf
 line-event attach f y = refl
 line-event (request q) f y = request-event q f y
 
-pub line-formed : (e : Event) → fits e ≡ true → inBytes e ≡ true → wellSpelled (lineOf e) ≡ true
+line-formed : (e : Event) → fits e ≡ true → inBytes e ≡ true → wellSpelled (lineOf e) ≡ true
 unfolding fits inBytes wellSpelled eventOf lineOf same
 line-formed attach f y = refl
 line-formed (request q) f y = request-formed q f y
 
 -- the line of an event is the first line of a text that begins with it
-pub line-first : (e : Event) (s : List ℕ) → firstLine (lineOf e ++ s) ≡ lineOf e
+line-first : (e : Event) (s : List ℕ) → firstLine (lineOf e ++ s) ≡ lineOf e
 unfolding lineOf firstLine
 line-first attach s = refl
 line-first (request q) s =
     let e : spelled (take 8 q) (drop 8 q) [] ++ s ≡ spelled (take 8 q) (drop 8 q) s = simp append-assoc in
     ap firstLine e ∙ first-spelled (take 8 q) (drop 8 q) s
 
-pub line-some : (e : Event) → 0 < length (lineOf e)
+line-some : (e : Event) → 0 < length (lineOf e)
 unfolding lineOf
 line-some attach = omega arith
 line-some (request q) = omega arith

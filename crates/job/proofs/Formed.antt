@@ -1,17 +1,17 @@
 -- When the first line of a text is well formed, and which event it spells. Assumes nothing.
-use mathlib.Core.Path.{_≡_, refl, ap, ap₂, _∙_, sym}
+use mathlib.Core.Path.{_≡_, ap, ap₂, _∙_, sym}
 use mathlib.Core.Bool.{true}
-use mathlib.Core.List.{List, [], _∷_, _++_, append-assoc}
-use Prim.Native.Nat.{ℕ, zero, suc, _+_, _-_, _*_, _≤_, _<_}
+use mathlib.Core.List.{List, [], _++_, append-assoc}
+use Prim.Native.Nat.{ℕ, _+_, _-_, _*_, _≤_, _<_}
 use native.Mathlib.Omega.{arith}
-use lib.Dec.{eqb, ltb}
+use lib.Dec.{eqb}
 use lib.ListN.{length, take, drop, getD, length-append, take-append-drop, List·getD-append}
 use lib.Seq.{length-take-le, take-at, drop-at}
 use borrow.Author.Tests.{eqb-false, eq-eqb, ne-eqb, le-leb}
 use Rattle.laws.proofs.Split.{by-bool, and-true}
 use Rattle.request.specs.Setup.{setupOf, dataLength, fitsOf}
 use Rattle.request.proofs.Lengths.{fits-eight, fits-data}
-use Rattle.hex.specs.Hex.{bytesOf, allDigits}
+use Rattle.hex.specs.Hex.{hexOf, bytesOf, allDigits}
 use Rattle.hex.proofs.Fields.{bytes-are, bytes-hex, digits-hex}
 use Rattle.laws.specs.Lists.{same, allBytes}
 use Rattle.job.specs.Event.{request, fits, lineOf, inBytes}
@@ -84,10 +84,12 @@ asks-length x =
 pub asks-setup : {u : List ℕ} → (x : Asks u) → bytesOf (take 16 (drop 2 u)) ≡ x .a
 asks-setup x = ap bytesOf (asks-facts x .setup) ∙ bytes-hex (x .a) (x .inA)
 
+pub asks-whole : {u : List ℕ} → (x : Asks u) → setupOf (x .a ++ x .b) ≡ setupOf (x .a)
+asks-whole x = setup-front (x .a) (x .b) (let h : 8 ≤ length (x .a) = let w = x .whole in omega arith in h)
+
 pub asks-data : {u : List ℕ} → (x : Asks u) → dataLength (setupOf (x .a)) ≡ length (x .b)
 asks-data x =
-    let h : 8 ≤ length (x .a) = let w = x .whole in omega arith in
-    let e : length (x .a ++ x .b) ≡ 8 + dataLength (setupOf (x .a)) = fits-data (x .a ++ x .b) (x .fit) ∙ ap (λ s. 8 + dataLength s) (setup-front (x .a) (x .b) h) in
+    let e : length (x .a ++ x .b) ≡ 8 + dataLength (setupOf (x .a)) = fits-data (x .a ++ x .b) (x .fit) ∙ ap (λ s. 8 + dataLength s) (asks-whole x) in
     let l : length (x .a ++ x .b) ≡ length (x .a) + length (x .b) = length-append (x .a) (x .b) in
     let w = x .whole in
     omega arith
@@ -150,11 +152,19 @@ asks u h n =
       is = sym (first-rest u) ∙ ap (λ (x : List ℕ). x ++ r) (asked-line l h o) ∙ simp append-assoc;
     }
 
+-- the digits of its data stand between the last tab and the place `end` of its LF
+body-here : {u : List ℕ} → (x : Asks u) (end : ℕ) → end ≡ 19 + length (x .b) * 2 → take (end - 19) (drop 19 u) ≡ hexOf (x .b)
+body-here {u} x end e =
+    let k : end - 19 ≡ length (x .b) * 2 = omega arith in
+    ap (λ (n : ℕ). take n (drop 19 u)) k ∙ asks-facts x .body
+
 -- its fields are digits
 pub asks-digits : {u : List ℕ} → (x : Asks u) → allDigits (take 16 (drop 2 u)) ≡ true
 asks-digits x = ap allDigits (asks-facts x .setup) ∙ digits-hex (x .a)
 
 pub asks-body : {u : List ℕ} → (x : Asks u) (end : ℕ) → end ≡ 19 + length (x .b) * 2 → allDigits (take (end - 19) (drop 19 u)) ≡ true
-asks-body {u} x end e =
-    let k : end - 19 ≡ length (x .b) * 2 = omega arith in
-    ap (λ (n : ℕ). allDigits (take n (drop 19 u))) k ∙ ap allDigits (asks-facts x .body) ∙ digits-hex (x .b)
+asks-body x end e = ap allDigits (body-here x end e) ∙ digits-hex (x .b)
+
+-- and those of the data spell them
+pub asks-spells : {u : List ℕ} → (x : Asks u) (end : ℕ) → end ≡ 19 + length (x .b) * 2 → bytesOf (take (end - 19) (drop 19 u)) ≡ x .b
+asks-spells x end e = ap bytesOf (body-here x end e) ∙ bytes-hex (x .b) (x .inB)

@@ -13,26 +13,26 @@ use Rattle.hex.specs.Hex.{allDigits, bytesOf}
 use Rattle.job.specs.declared.Item.the-variants as item
 use Rattle.job.specs.Text.{firstLine, wellSpelled, lineLength}
 use Rattle.job.specs.Calls.{itemOf}
-use Rattle.job.proofs.Formed.{Asks, asks, asks-facts, asks-length, asks-setup, asks-digits, asks-data}
+use Rattle.job.proofs.Formed.{Asks, asks, asks-facts, asks-length, asks-digits, asks-data}
 use Rattle.job.proofs.LineLength.{length-good, attaches}
-use Rattle.job.proofs.Walking.{setup-here, item-attach, item-request}
+use Rattle.job.proofs.Walking.{setup-here, setup-asked, item-attach, item-request}
+
+pub kind-here : (t : List ℕ) (at : ℕ) → getD (drop at t) 0 0 ≡ getD t at 0
+kind-here t at = let e : at + 0 ≡ at = omega arith in getD-drop at t 0 0 ∙ ap (λ (i : ℕ). getD t i 0) e
 
 module _ (t : List ℕ) (at : ℕ) (more : at < length t) (formed : wellSpelled (firstLine (drop at t)) ≡ true) where
   measured : length (firstLine (drop at t)) ≡ lineLength (take (length t - at) (drop at t))
   measured = sym (length-good (drop at t) formed) ∙ ap lineLength (sym (rest-is at t))
 
-  kind-here : getD (drop at t) 0 0 ≡ getD t at 0
-  kind-here = let e : at + 0 ≡ at = omega arith in getD-drop at t 0 0 ∙ ap (λ (i : ℕ). getD t i 0) e
-
   pub known-attach : getD t at 0 ≡ 65 → item.Attach (at + 2) ≡ itemOf t at
   known-attach k =
-      let l : length (firstLine (drop at t)) ≡ 2 = ap length (attaches (drop at t) formed (kind-here ∙ k) .first) in
+      let l : length (firstLine (drop at t)) ≡ 2 = ap length (attaches (drop at t) formed (kind-here t at ∙ k) .first) in
       ap (λ (n : ℕ). item.Attach (at + n)) (sym l) ∙ item-attach t at (length (firstLine (drop at t))) more measured (λ z. omega arith) (omega arith)
 
   -- a line of another kind is a request's
   module _ (other : getD t at 0 ≡ 65 → ⊥) where
-    line-asks : Asks (drop at t)
-    line-asks = asks (drop at t) formed (λ k. other (sym kind-here ∙ k))
+    pub line-asks : Asks (drop at t)
+    line-asks = asks (drop at t) formed (λ k. other (sym (kind-here t at) ∙ k))
 
     -- its setup lies in the text
     pub known-setup : at + 18 ≤ length t
@@ -46,9 +46,8 @@ module _ (t : List ℕ) (at : ℕ) (more : at < length t) (formed : wellSpelled 
 
     -- n bytes of data are asked for by the setup s
     module _ (s : Setup) (n : ℕ) (reads : s ≡ setupOf (bytesOf (take (at + 18 - (at + 2)) (drop (at + 2) t)))) (count : n ≡ dataLength s) where
-      counted : n ≡ length (line-asks .b)
-      counted =
-          count ∙ ap dataLength (reads ∙ ap (λ (d : List ℕ). setupOf (bytesOf d)) (setup-here t at) ∙ ap setupOf (asks-setup line-asks)) ∙ asks-data line-asks
+      pub counted : n ≡ length (line-asks .b)
+      counted = count ∙ ap dataLength (setup-asked t at line-asks s reads) ∙ asks-data line-asks
 
       pub known-room : at + 20 + n * 2 ≤ length t
       known-room =

@@ -9,11 +9,11 @@ pub mod Packing
 pub mod PieceLength
 pub mod EventText
 pub mod EventPacked
+pub mod WalkEvents
 pub mod PackLoop
 pub mod SpellSize
 pub mod SpellLine
 pub mod SpellLoop
-pub mod WalkEvents
 pub mod Answers
 pub mod Order
 pub mod Theorems

@@ -10,14 +10,14 @@ use borrow.Author.Tests.{eq-eqb}
 use Rattle.laws.proofs.Split.{by-bool, and-true}
 use Rattle.request.specs.Setup.{setupOf, dataLength}
 use Rattle.hex.specs.Hex.{bytesOf, allDigits}
-use Rattle.hex.proofs.Fields.{bytes-are, bytes-length, digits-hex}
+use Rattle.hex.proofs.Fields.{bytes-are, bytes-length}
 use Rattle.laws.specs.Lists.{same}
 use Rattle.job.specs.Event.{attach, fits, lineOf}
 use Rattle.job.specs.Text.{firstLine, eventOf, wellSpelled, lineLength}
 use Rattle.job.proofs.Spelling.{is-spelled}
 use Rattle.laws.proofs.Lists.{same-refl, same-eq}
 use Rattle.job.proofs.FirstLine.{first-rest, first-kind, first-length, first-attach}
-use Rattle.job.proofs.Formed.{fits-if, setup-front, Asks, asks, asks-facts, asks-formed, asks-length, asks-setup, asks-data}
+use Rattle.job.proofs.Formed.{fits-if, setup-front, Asks, asks, asks-facts, asks-formed, asks-length, asks-setup, asks-data, asks-digits, asks-body}
 
 pub length-good : (u : List ℕ) → wellSpelled (firstLine u) ≡ true → lineLength u ≡ length (firstLine u)
 unfolding lineLength
@@ -98,7 +98,7 @@ module _ (u : List ℕ) (k : getD u 0 0 ≡ 81) where
   no-second-tab n = no-request (λ x. n (asks-facts x .second))
 
   pub no-setup : allDigits (take 16 (drop 2 u)) ≡ false → 0 ≡ lineLength u
-  no-setup e = no-request (λ x. true≢false (sym (ap allDigits (asks-facts x .setup) ∙ digits-hex (x .a)) ∙ e))
+  no-setup e = no-request (λ x. true≢false (sym (asks-digits x) ∙ e))
 
   -- m bytes of data are asked for, and end is the place behind their digits
   module _ (m end : ℕ) (asked : m ≡ dataLength (setupOf (bytesOf (take 16 (drop 2 u))))) (ends : end ≡ 19 + m * 2) where
@@ -120,8 +120,8 @@ module _ (u : List ℕ) (k : getD u 0 0 ≡ 81) where
     no-data d =
         no-request
         (λ x.
-        let e : end - 19 ≡ length (x .b) * 2 = let z = asked-is x in omega arith in
-        true≢false (sym (ap (λ (i : ℕ). allDigits (take i (drop 19 u))) e ∙ ap allDigits (asks-facts x .body) ∙ digits-hex (x .b)) ∙ d))
+        let e : end ≡ 19 + length (x .b) * 2 = let z = asked-is x in omega arith in
+        true≢false (sym (asks-body x end e) ∙ d))
 
     -- and all of them together
     pub request-line : 20 ≤ length u → getD u 1 0 ≡ 9 → getD u 18 0 ≡ 9 → allDigits (take 16 (drop 2 u)) ≡ true → m ≤ (length u - 20) / 2 → getD u end 0 ≡ 10 → allDigits (take (end - 19) (drop 19 u)) ≡ true → end + 1 ≡ lineLength u

@@ -1,59 +1,40 @@
 -- One turn of the loop that packs a text, and its end. Assumes nothing.
 use mathlib.Core.Path.{_≡_, refl, ap, ap₂, _∙_, sym}
 use mathlib.Core.Bool.{true}
-use mathlib.Core.List.{List, [], _++_}
+use mathlib.Core.List.{List, _++_}
 use Prim.Native.Nat.{ℕ, _+_, _-_, _≤_, _<_}
 use native.Mathlib.Omega.{arith}
-use lib.ListN.{length, take, drop, length-append, length-drop, drop-of-length-le}
+use lib.ListN.{length, take, drop, length-append}
 use lib.Seq.{sets}
 use Rattle.laws.specs.Bytes.{put}
 use Rattle.laws.proofs.Bytes.{sets-put, rest-is}
 use Rattle.laws.proofs.Append.{sets-append}
-use Rattle.job.specs.Event.{packOf, packedOf}
-use Rattle.job.specs.Text.{firstLine, linesOf, eventOf, wellSpelled, lineLength, packedSize, badFrom, firstBad, eventsIn, eventsOf}
-use Rattle.job.proofs.FirstLine.{first-some, first-length, lines-first}
+use Rattle.job.specs.Event.{Event, packOf, packedOf}
+use Rattle.job.specs.Text.{firstLine, eventOf, wellSpelled, lineLength, packedSize, firstBad, eventsOf}
 use Rattle.job.proofs.LineLength.{length-good}
-use Rattle.job.proofs.EventText.{good-first, bad-none}
-use Rattle.job.proofs.Walking.{size-packed, turn-good, turn-packed, turn-total}
+use Rattle.job.proofs.Walking.{size-packed, turn-packed, turn-total}
+use Rattle.job.proofs.WalkEvents.{Beyond, formed-here, beyond-here, events-end}
 
 module _ (t : List ℕ) (at : ℕ) (more : at < length t) (good : firstBad (drop at t) ≡ 0) where
-  some : 0 < length (drop at t)
-  some = simp length-drop (omega arith)
-
-  formed : wellSpelled (firstLine (drop at t)) ≡ true
-  unfolding firstBad
-  formed = good-first (firstLine (drop at t)) (linesOf (drop (length (firstLine (drop at t))) (drop at t))) 0 (ap (badFrom 1) (sym (lines-first (drop at t) some)) ∙ good) .0
-
   -- the first line of what is left, as a callee sees it
   same-line : firstLine (take (length t - at) (drop at t)) ≡ firstLine (drop at t)
   same-line = ap firstLine (rest-is at t)
 
   pub next-formed : wellSpelled (firstLine (take (length t - at) (drop at t))) ≡ true
-  next-formed = ap wellSpelled same-line ∙ formed
+  next-formed = ap wellSpelled same-line ∙ formed-here t at good more
 
   module _ (line : ℕ) (is : line ≡ length (firstLine (take (length t - at) (drop at t)))) where
     long : line ≡ length (firstLine (drop at t))
     long = is ∙ ap length same-line
 
-    pub next-some : 1 ≤ line
-    next-some = let h = first-some (drop at t) some in let e = long in omega arith
-
-    pub next-within : at + line ≤ length t
-    next-within =
-        let h = first-length (drop at t) in
-        let e = long in
-        let l : length (drop at t) ≡ length t - at = length-drop at t in
-        omega arith
+    pub next-beyond : Beyond t at (eventOf (firstLine (drop at t))) (at + line)
+    next-beyond = beyond-here t at good more (eventOf (firstLine (drop at t))) (at + line) refl (ap (λ (n : ℕ). at + n) (sym long))
 
     nonzero : line ≡ 0 → ⊥
-    nonzero z = let h = next-some in omega arith
+    nonzero z = let h = next-beyond .more in omega arith
 
     told : line ≡ lineLength (take (length t - at) (drop at t))
     told = is ∙ sym (length-good (take (length t - at) (drop at t)) next-formed)
-
-    pub next-good : firstBad (drop (at + line) t) ≡ 0
-    unfolding firstBad
-    next-good = bad-none (linesOf (drop (at + line) t)) 1 0 (sym (turn-good t at line more told nonzero 1) ∙ good)
 
     packed : packedOf (eventsOf (drop at t)) ≡ packOf (eventOf (firstLine (drop at t))) ++ packedOf (eventsOf (drop (at + line) t))
     packed = turn-packed t at line more told nonzero
@@ -66,7 +47,7 @@ module _ (t : List ℕ) (at : ℕ) (more : at < length t) (good : firstBad (drop
         let p = packOf (eventOf (firstLine (drop at t))) in
         let q : packOf (eventOf (firstLine (take (length t - at) (drop at t)))) ≡ p = ap (λ (l : List ℕ). packOf (eventOf l)) same-line in
         let r : to + length p ≤ length out = ap-le q in
-        let k : n ≡ length p = e ∙ ap packedSize long ∙ sym (size-packed (drop at t) formed) in
+        let k : n ≡ length p = e ∙ ap packedSize long ∙ sym (size-packed (drop at t) (formed-here t at good more)) in
         let s : out₂ ≡ sets out to p = put-is ∙ ap (λ (l : List ℕ). put to l out) q ∙ sym (sets-put p out to r) in
         ap₂ (λ (l : List ℕ) (i : ℕ). sets l (to + i) (packedOf (eventsOf (drop (at + line) t)))) s k
         ∙ sym (sets-append p (packedOf (eventsOf (drop (at + line) t))) out to)
@@ -83,12 +64,8 @@ module _ (t : List ℕ) (at : ℕ) (more : at < length t) (good : firstBad (drop
       let q : length (packOf (eventOf (firstLine (take (length t - at) (drop at t))))) ≡ length (packOf (eventOf (firstLine (drop at t)))) = ap (λ (l : List ℕ). length (packOf (eventOf l))) same-line in
       omega arith
 
-none : packedOf (eventsOf []) ≡ []
-unfolding packedOf eventsOf eventsIn linesOf
-none = refl
-
 pub pack-end : (t out out₀ : List ℕ) (at to : ℕ) → length t ≤ at → length (packedOf (eventsOf t)) ≤ length out₀ → sets out to (packedOf (eventsOf (drop at t))) ≡ sets out₀ 0 (packedOf (eventsOf t)) → out ≡ put 0 (packedOf (eventsOf t)) out₀
+unfolding packedOf
 pack-end t out out₀ at to h room e =
-    let d : drop at t ≡ [] = drop-of-length-le t h in
     let r : 0 + length (packedOf (eventsOf t)) ≤ length out₀ = omega arith in
-    ap (λ (l : List ℕ). sets out to l) (sym none) ∙ ap (λ (l : List ℕ). sets out to (packedOf (eventsOf l))) (sym d) ∙ e ∙ sets-put (packedOf (eventsOf t)) out₀ 0 r
+    ap (λ (es : List Event). sets out to (packedOf es)) (sym (events-end t at h)) ∙ e ∙ sets-put (packedOf (eventsOf t)) out₀ 0 r

@@ -11,10 +11,9 @@ use Rattle.laws.proofs.Bytes.{sets-put}
 use Rattle.laws.proofs.Append.{sets-append, part-put}
 use Rattle.request.specs.Setup.{setupOf, dataLength}
 use Rattle.hex.specs.Hex.{bytesOf}
-use Rattle.hex.proofs.Fields.{bytes-hex}
 use Rattle.job.specs.Event.{packOf}
 use Rattle.job.specs.Text.{firstLine, eventOf}
-use Rattle.job.proofs.Formed.{Asks, asks-facts, asks-event, asks-length, asks-setup, asks-data}
+use Rattle.job.proofs.Formed.{Asks, asks-facts, asks-event, asks-length, asks-setup, asks-data, asks-spells}
 use Rattle.job.proofs.LineLength.{Attaches}
 
 asks-packed : {u : List ℕ} → (x : Asks u) → packOf (eventOf (firstLine u)) ≡ 1 ∷ (x .a ++ x .b)
@@ -50,8 +49,7 @@ module _ (u out out₂ : List ℕ) (at : ℕ) (x : Asks u) (room : at + 9 + leng
   request-packed out₃ end e three =
       let w = x .whole in
       let q = kept in
-      let n : end - 19 ≡ length (x .b) * 2 = omega arith in
-      let f : bytesOf (take (end - 19) (drop 19 u)) ≡ x .b = ap (λ (i : ℕ). bytesOf (take i (drop 19 u))) n ∙ ap bytesOf (asks-facts x .body) ∙ bytes-hex (x .b) (x .inB) in
+      let f : bytesOf (take (end - 19) (drop 19 u)) ≡ x .b = asks-spells x end e in
       let ra : at + 1 + length (x .a) ≤ length (set out at 1) = omega arith in
       let s₂ : out₂ ≡ sets (set out at 1) (at + 1) (x .a) = laid ∙ sym (sets-put (x .a) (set out at 1) (at + 1) ra) in
       let l₂ : length out₂ ≡ length (set out at 1) = ap length s₂ ∙ length-sets (set out at 1) (at + 1) (x .a) in

@@ -1,171 +1,123 @@
--- The walk and the events of a text: what `item_at` and `event_at` give at a place from which on the text is that of some events. Assumes nothing.
+-- A walk over a text that has no malformed line from a place on: what stands there and behind it, and what the item of that place tells. Assumes nothing.
 use mathlib.Core.Path.{_≡_, refl, ap, ap₂, _∙_, sym}
 use mathlib.Core.Bool.{true}
-use mathlib.Core.List.{List, [], _∷_, _++_, append-assoc}
+use mathlib.Core.List.{List, [], _∷_, _++_}
 use Prim.Native.Nat.{ℕ, _+_, _-_, _*_, _≤_, _<_}
 use native.Mathlib.Omega.{arith}
-use lib.ListN.{length, take, drop, length-append, length-drop}
-use lib.Seq.{drop-drop, drop-append-seam, length-take-le}
-use borrow.Author.Tests.{lt-leb, le-leb}
+use lib.ListN.{length, take, drop, getD, length-drop, drop-of-length-le}
+use lib.Seq.{length-take-le, drop-drop, drop-at}
+use Rattle.laws.proofs.Split.{by-eq, by-lt}
 use Rattle.request.specs.Setup.{setupOf, dataLength}
 use Rattle.request.specs.declared.Setup.{Setup}
-use Rattle.request.proofs.Lengths.{fits-eight, fits-data}
-use Rattle.hex.specs.Hex.{hexOf, allDigits, bytesOf}
-use Rattle.hex.proofs.Fields.{bytes-hex, digits-hex}
+use Rattle.hex.specs.Hex.{allDigits, bytesOf}
+use Rattle.job.specs.declared.Item.{Item}
 use Rattle.job.specs.declared.Item.the-variants as item
-use Rattle.job.specs.Event.{Event, attach, request, fits, inBytes, proper, lineOf, textOf}
-use Rattle.job.specs.Text.{firstLine, wellSpelled}
-use Rattle.job.specs.Calls.{itemFor, itemOf}
-use Rattle.job.proofs.Spelling.{spelled, spelled-facts}
-use Rattle.laws.proofs.Lists.{bytes-drop}
-use Rattle.job.proofs.SpellSize.{line-length-of}
-use Rattle.job.proofs.EventText.{line-event, line-formed, line-first, line-some, proper-parts}
+use Rattle.job.specs.Event.{Event, attach, request}
+use Rattle.job.specs.Text.{firstLine, linesOf, eventOf, wellSpelled, badFrom, firstBad, eventsIn, eventsOf}
+use Rattle.job.specs.Calls.{itemOf}
+use Rattle.job.proofs.FirstLine.{first-some, first-length}
+use Rattle.job.proofs.Formed.{asks-event, asks-length, asks-whole, asks-body, asks-spells}
+use Rattle.job.proofs.LineLength.{attaches}
+use Rattle.job.proofs.Walking.{some-left, lines-here, setup-asked, item-end}
+use Rattle.job.proofs.Known.{kind-here, known-attach, line-asks, counted, known-request}
+use Rattle.job.proofs.EventText.{good-first, bad-none}
 
--- where the text goes on with the lines of e and es
-module _ (t : List ℕ) (at : ℕ) (e : Event) (es : List Event) (is : drop at t ≡ textOf (e ∷ es)) (ok : proper (e ∷ es) ≡ true) where
-  goes-on : drop at t ≡ lineOf e ++ textOf es
-  unfolding textOf
-  goes-on = is
-
-  more : at < length t
-  more =
-      let l : length (drop at t) ≡ length (lineOf e) + length (textOf es) = ap length goes-on ∙ length-append (lineOf e) (textOf es) in
-      let d : length (drop at t) ≡ length t - at = length-drop at t in
-      let s = line-some e in
-      omega arith
-
-  first : firstLine (drop at t) ≡ lineOf e
-  first = ap firstLine goes-on ∙ line-first e (textOf es)
-
-  -- the item is that of e
-  item-here : itemOf t at ≡ itemFor at (length (lineOf e)) e
-  unfolding itemOf
-  item-here =
-      let p = proper-parts e es ok in
-      rw (lt-leb (length t) at more, first, line-formed e (p .0) (p .1), line-event e (p .0) (p .1))
-
-  -- its line ends within the text
-  within : at + length (lineOf e) ≤ length t
-  within =
-      let l : length (drop at t) ≡ length (lineOf e) + length (textOf es) = ap length goes-on ∙ length-append (lineOf e) (textOf es) in
-      let d : length (drop at t) ≡ length t - at = length-drop at t in
-      let m = more in
-      omega arith
-
-  -- and behind its line the text is that of es
-  next-here : drop (at + length (lineOf e)) t ≡ textOf es
-  next-here = sym (drop-drop (length (lineOf e)) at t) ∙ ap (drop (length (lineOf e))) goes-on ∙ drop-append-seam (lineOf e) (textOf es)
-
--- the data of a request stand as digits from 19 bytes behind the place of its line
-data-here : (t : List ℕ) (at : ℕ) (q : List ℕ) (es : List Event) → drop at t ≡ textOf (request q ∷ es) → proper (request q ∷ es) ≡ true → take (dataLength (setupOf q) * 2) (drop (at + 19) t) ≡ hexOf (drop 8 q)
-unfolding textOf lineOf fits
-data-here t at q es is ok =
-    let p = proper-parts (request q) es ok in
-    let h : 8 ≤ length q = fits-eight q (p .0) in
-    let l : length (take 8 q) ≡ 8 = length-take-le 8 q h in
-    let f = spelled-facts (take 8 q) (drop 8 q) (textOf es) l in
-    let n : dataLength (setupOf q) * 2 ≡ length (drop 8 q) * 2 = let d = fits-data q (p .0) in let k : length (drop 8 q) ≡ length q - 8 = length-drop 8 q in omega arith in
-    let j : spelled (take 8 q) (drop 8 q) [] ++ textOf es ≡ spelled (take 8 q) (drop 8 q) (textOf es) = simp append-assoc in
-    let s : drop (at + 19) t ≡ drop 19 (spelled (take 8 q) (drop 8 q) (textOf es)) = sym (drop-drop 19 at t) ∙ ap (drop 19) (is ∙ j) in
-    ap₂ (λ (k : ℕ) (x : List ℕ). take k x) n s ∙ f .body
-
--- how long a request's line is: LF stands behind its data
-line-ends : (q : List ℕ) → fits (request q) ≡ true → length (lineOf (request q)) ≡ 19 + dataLength (setupOf q) * 2 + 1
-unfolding fits
-line-ends q f =
-    let d = fits-data q f in
-    let l = line-length-of q (fits-eight q f) in
-    omega arith
-
--- where the text is at its end
-item-last : (t : List ℕ) (at : ℕ) → drop at t ≡ textOf [] → itemOf t at ≡ item.End
-unfolding textOf itemOf
-item-last t at is =
-    let l : length (drop at t) ≡ 0 = ap length is in
-    let d : length (drop at t) ≡ length t - at = length-drop at t in
-    rw (le-leb (length t) at (let h : length t ≤ at = omega arith in h))
-
--- while there is text, its first line is well formed
-pub formed-here : (t : List ℕ) (at : ℕ) (es : List Event) → drop at t ≡ textOf es → proper es ≡ true → at < length t → wellSpelled (firstLine (drop at t)) ≡ true
-unfolding textOf
-formed-here t at [] is ok h =
-    let l : length (drop at t) ≡ 0 = ap length is in
-    let d : length (drop at t) ≡ length t - at = length-drop at t in
-    absurd (omega arith)
-formed-here t at (e ∷ es) is ok h = let p = proper-parts e es ok in ap wellSpelled (first t at e es is ok) ∙ line-formed e (p .0) (p .1)
-
--- what each item tells of the events that the text goes on with
-pub end-tells : (t : List ℕ) (at : ℕ) (es : List Event) → drop at t ≡ textOf es → proper es ≡ true → itemOf t at ≡ item.End → es ≡ []
-unfolding itemFor
-end-tells t at [] is ok i = refl
-end-tells t at (attach ∷ es) is ok i = let h = item-here t at attach es is ok in let z : _≡_ {A = ℕ} 0 1 = cc in absurd (omega arith)
-end-tells t at (request q ∷ es) is ok i = let h = item-here t at (request q) es is ok in let z : _≡_ {A = ℕ} 0 1 = cc in absurd (omega arith)
-
-pub bad-never : (t : List ℕ) (at : ℕ) (es : List Event) → drop at t ≡ textOf es → proper es ≡ true → itemOf t at ≡ item.Bad → ⊥
-unfolding itemFor
-bad-never t at [] is ok i = let h = item-last t at is in let z : _≡_ {A = ℕ} 0 1 = cc in omega arith
-bad-never t at (attach ∷ es) is ok i = let h = item-here t at attach es is ok in let z : _≡_ {A = ℕ} 0 1 = cc in omega arith
-bad-never t at (request q ∷ es) is ok i = let h = item-here t at (request q) es is ok in let z : _≡_ {A = ℕ} 0 1 = cc in omega arith
-
--- behind an event's line the text goes on with the rest of its events
-pub record Beyond (t : List ℕ) (at : ℕ) (rest : List Event) (next : ℕ) : Type 0 where
-  pub text : drop next t ≡ textOf rest
-  pub right : proper rest ≡ true
+-- the event e stands at a place, and no line is malformed from the end of its line on
+pub record Beyond (t : List ℕ) (at : ℕ) (e : Event) (next : ℕ) : Type 0 where
+  pub events : eventsOf (drop at t) ≡ e ∷ eventsOf (drop next t)
+  pub clean : firstBad (drop next t) ≡ 0
   pub more : at < next
   pub within : next ≤ length t
 
-beyond-here : (t : List ℕ) (at : ℕ) (e : Event) (es : List Event) (next : ℕ) → drop at t ≡ textOf (e ∷ es) → proper (e ∷ es) ≡ true → at + length (lineOf e) ≡ next → Beyond t at es next
-beyond-here t at e es next is ok n =
-    let s = line-some e in
-    let l = within t at e es is ok in
-    record {
-      text = ap (λ (k : ℕ). drop k t) (sym n) ∙ next-here t at e es is ok;
-      right = proper-parts e es ok .2;
-      more = let h : at < next = omega arith in h;
-      within = let h : next ≤ length t = omega arith in h;
-    }
-
-pub record Attached (t : List ℕ) (at : ℕ) (es : List Event) (next : ℕ) : Type 0 where
-  pub rest : List Event
-  pub events : es ≡ attach ∷ rest
-  pub onward : Beyond t at rest next
-
-pub attach-tells : (t : List ℕ) (at next : ℕ) (es : List Event) → drop at t ≡ textOf es → proper es ≡ true → itemOf t at ≡ item.Attach next → Attached t at es next
-unfolding itemFor
-attach-tells t at next [] is ok i = let h = item-last t at is in let z : _≡_ {A = ℕ} 0 1 = cc in absurd (omega arith)
-attach-tells t at next (attach ∷ es) is ok i =
-    let h = item-here t at attach es is ok in
-    let n : at + length (lineOf attach) ≡ next = cc in
-    record { rest = es; events = refl; onward = beyond-here t at attach es next is ok n }
-attach-tells t at next (request q ∷ es) is ok i = let h = item-here t at (request q) es is ok in let z : _≡_ {A = ℕ} 0 1 = cc in absurd (omega arith)
-
-pub record Requested (t : List ℕ) (at : ℕ) (es : List Event) (s : Setup) (data-at next : ℕ) : Type 0 where
+-- a request stands there, and its data between data-at and the LF in front of next
+pub record Requested (t : List ℕ) (at : ℕ) (s : Setup) (data-at next : ℕ) : Type 0 where
   pub bytes : List ℕ
-  pub rest : List Event
-  pub events : es ≡ request bytes ∷ rest
   pub asked : s ≡ setupOf bytes
-  pub data-digits : allDigits (take (dataLength s * 2) (drop data-at t)) ≡ true
-  pub data-bytes : bytesOf (take (dataLength s * 2) (drop data-at t)) ≡ drop 8 bytes
   pub ends : next ≡ data-at + dataLength s * 2 + 1
-  pub onward : Beyond t at rest next
+  pub long : length (take (next - 1 - data-at) (drop data-at t)) ≡ dataLength s * 2
+  pub digits : allDigits (take (next - 1 - data-at) (drop data-at t)) ≡ true
+  pub spells : bytesOf (take (next - 1 - data-at) (drop data-at t)) ≡ drop 8 bytes
+  pub onward : Beyond t at (request bytes) next
 
-pub request-tells : (t : List ℕ) (at : ℕ) (s : Setup) (data-at next : ℕ) (es : List Event) → drop at t ≡ textOf es → proper es ≡ true → itemOf t at ≡ item.Request s data-at next → Requested t at es s data-at next
-unfolding itemFor inBytes
-request-tells t at s d next [] is ok i = let h = item-last t at is in let z : _≡_ {A = ℕ} 0 1 = cc in absurd (omega arith)
-request-tells t at s d next (attach ∷ es) is ok i = let h = item-here t at attach es is ok in let z : _≡_ {A = ℕ} 0 1 = cc in absurd (omega arith)
-request-tells t at s d next (request q ∷ es) is ok i =
-    let h = item-here t at (request q) es is ok in
-    let n : at + length (lineOf (request q)) ≡ next = cc in
-    let a : s ≡ setupOf q = cc in
-    let m : at + 19 ≡ d = cc in
-    let x : take (dataLength s * 2) (drop d t) ≡ hexOf (drop 8 q) = ap₂ (λ (k : ℕ) (j : ℕ). take (k * 2) (drop j t)) (ap dataLength a) (sym m) ∙ data-here t at q es is ok in
-    record {
-      bytes = q;
-      rest = es;
-      events = refl;
-      asked = a;
-      data-digits = ap allDigits x ∙ digits-hex (drop 8 q);
-      data-bytes = ap bytesOf x ∙ bytes-hex (drop 8 q) (bytes-drop 8 q (proper-parts (request q) es ok .1));
-      ends = let k = line-ends q (proper-parts (request q) es ok .0) in let j : dataLength s ≡ dataLength (setupOf q) = ap dataLength a in let h : next ≡ d + dataLength s * 2 + 1 = omega arith in h;
-      onward = beyond-here t at (request q) es next is ok n;
-    }
+-- what an item tells
+abbrev pub Tells : List ℕ → ℕ → Item → Type 0
+Tells t at item.End = length t ≤ at
+Tells t at item.Bad = ⊥
+Tells t at (item.Attach next) = Beyond t at attach next
+Tells t at (item.Request s data-at next) = Requested t at s data-at next
+
+-- at the end of a text no event is left
+pub events-end : (t : List ℕ) (at : ℕ) → length t ≤ at → eventsOf (drop at t) ≡ []
+unfolding eventsOf eventsIn linesOf
+events-end t at h = ap eventsOf (drop-of-length-le t h)
+
+module _ (t : List ℕ) (at : ℕ) (clean : firstBad (drop at t) ≡ 0) where
+  -- before its end
+  module _ (more : at < length t) where
+    abbrev u : List ℕ
+    u = drop at t
+
+    parts : (wellSpelled (firstLine u) ≡ true) × (firstBad (drop (at + length (firstLine u)) t) ≡ 0)
+    unfolding firstBad
+    parts =
+        let rest = linesOf (drop (at + length (firstLine u)) t) in
+        let p = good-first (firstLine u) rest 0 (ap (badFrom 1) (sym (lines-here t at more)) ∙ clean) in
+        (p .0, bad-none rest 1 0 (p .1))
+
+    pub formed-here : wellSpelled (firstLine u) ≡ true
+    formed-here = parts .0
+
+    pub beyond-here : (e : Event) (next : ℕ) → eventOf (firstLine u) ≡ e → at + length (firstLine u) ≡ next → Beyond t at e next
+    unfolding eventsOf eventsIn
+    beyond-here e next is ends =
+        let s = first-some u (some-left t at more) in
+        let w = first-length u in
+        let l : length u ≡ length t - at = length-drop at t in
+        record {
+          events = rw (lines-here t at more, is, ends);
+          clean = rw ends at (parts .1);
+          more = let h : at < next = omega arith in h;
+          within = let h : next ≤ length t = omega arith in h;
+        }
+
+    attach-here : getD t at 0 ≡ 65 → Beyond t at attach (at + 2)
+    attach-here k =
+        let x = attaches u formed-here (kind-here t at ∙ k) in
+        beyond-here attach (at + 2) (x .event) (ap (λ (l : List ℕ). at + length l) (x .first))
+
+    request-here : (getD t at 0 ≡ 65 → ⊥) → (s : Setup) → s ≡ setupOf (bytesOf (take (at + 18 - (at + 2)) (drop (at + 2) t))) → Requested t at s (at + 19) (at + 19 + dataLength s * 2 + 1)
+    request-here other s reads =
+        let x = line-asks t at more formed-here other in
+        let n = dataLength s * 2 in
+        let next = at + 19 + n + 1 in
+        let c : dataLength s ≡ length (x .b) = counted t at more formed-here other s (dataLength s) reads refl in
+        let stop : 19 + n ≡ 19 + length (x .b) * 2 = omega arith in
+        let size = asks-length x in
+        let line : at + length (firstLine u) ≡ next = omega arith in
+        let go = beyond-here (request (x .a ++ x .b)) next (asks-event x) line in
+        let k : next - 1 - (at + 19) ≡ 19 + n - 19 = omega arith in
+        let m : next - 1 - (at + 19) ≡ n = omega arith in
+        let field : take (next - 1 - (at + 19)) (drop (at + 19) t) ≡ take (19 + n - 19) (drop 19 u) = ap₂ take k (sym (drop-drop 19 at t)) in
+        let room : next - 1 - (at + 19) ≤ length (drop (at + 19) t) = let w = go .within in simp length-drop (omega arith) in
+        record {
+          bytes = x .a ++ x .b;
+          asked = setup-asked t at x s reads ∙ sym (asks-whole x);
+          ends = refl;
+          long = length-take-le (next - 1 - (at + 19)) (drop (at + 19) t) room ∙ m;
+          digits = ap allDigits field ∙ asks-body x (19 + n) stop;
+          spells = ap bytesOf field ∙ asks-spells x (19 + n) stop ∙ sym (drop-at (x .a) (x .b) 8 (x .whole));
+          onward = go;
+        }
+
+  here : Tells t at (itemOf t at)
+  here =
+      by-lt at (length t)
+      (λ more.
+      let f = formed-here more in
+      by-eq (getD t at 0) 65
+      (λ k. rw (sym (known-attach t at more f k)) (attach-here more k))
+      (λ o. rw (sym (known-request t at more f o _ _ refl refl)) (request-here more o _ refl)))
+      (λ h. rw (sym (item-end t at h)) h)
+
+  pub item-tells : (i : Item) → itemOf t at ≡ i → Tells t at i
+  item-tells i is = rw is at here

@@ -20,7 +20,7 @@ use Rattle.job.specs.Event.{Event, attach, request, packOf, packedOf}
 use Rattle.job.specs.Text.{limit, firstLine, linesOf, eventOf, wellSpelled, lineLength, packedSize, badFrom, firstBad, eventsIn, eventsOf}
 use Rattle.job.specs.Calls.{measureOf, itemFor, itemOf}
 use Rattle.job.proofs.FirstLine.{first-some, lines-first}
-use Rattle.job.proofs.Formed.{Asks, asks, asks-event, asks-length, asks-setup, asks-digits, setup-front}
+use Rattle.job.proofs.Formed.{Asks, asks, asks-event, asks-length, asks-setup, asks-whole, asks-digits}
 use Rattle.job.proofs.LineLength.{length-good, length-bad, Attaches, attaches}
 
 -- a length that is not 0 is that of a well-formed line
@@ -37,6 +37,10 @@ malformed-if u s z =
 -- the digits of a setup, by their places in the text and in the line
 pub setup-here : (t : List ℕ) (at : ℕ) → take (at + 18 - (at + 2)) (drop (at + 2) t) ≡ take 16 (drop 2 (drop at t))
 setup-here t at = let n : at + 18 - (at + 2) ≡ 16 = omega arith in ap₂ take n (sym (drop-drop 2 at t))
+
+-- the setup that they spell is that of the request
+pub setup-asked : (t : List ℕ) (at : ℕ) (x : Asks (drop at t)) (s : Setup) → s ≡ setupOf (bytesOf (take (at + 18 - (at + 2)) (drop (at + 2) t))) → s ≡ setupOf (x .a)
+setup-asked t at x s e = e ∙ ap (λ (d : List ℕ). setupOf (bytesOf d)) (setup-here t at) ∙ ap setupOf (asks-setup x)
 
 -- by its length a line is of `A` or of `Q`
 short-attaches : (u : List ℕ) → wellSpelled (firstLine u) ≡ true → length (firstLine u) < 20 → Attaches u
@@ -59,22 +63,27 @@ size-packed u h =
     let e : suc (length (x .a ++ x .b)) ≡ length (firstLine u) / 2 - 1 = omega arith in
     rw (le-ltb (length (firstLine u)) 20 l, asks-event x) e)
 
+pub some-left : (t : List ℕ) (at : ℕ) → at < length t → 0 < length (drop at t)
+some-left t at more = simp length-drop (omega arith)
+
+-- the lines of what is left of a text: the next one, and those behind it
+pub lines-here : (t : List ℕ) (at : ℕ) → at < length t → linesOf (drop at t) ≡ firstLine (drop at t) ∷ linesOf (drop (at + length (firstLine (drop at t))) t)
+lines-here t at more =
+    lines-first (drop at t) (some-left t at more) ∙ ap (λ (l : List ℕ). firstLine (drop at t) ∷ linesOf l) (drop-drop (length (firstLine (drop at t))) at t)
+
 -- what is left of a text, as a callee sees it
 module _ (t : List ℕ) (at line : ℕ) (more : at < length t) (is : line ≡ lineLength (take (length t - at) (drop at t))) where
   left-is : line ≡ lineLength (drop at t)
   left-is = is ∙ ap lineLength (rest-is at t)
 
-  some : 0 < length (drop at t)
-  some = simp length-drop (omega arith)
-
   -- a turn at a malformed line
   pub turn-bad : (number : ℕ) → line ≡ 0 → badFrom number (linesOf (drop at t)) ≡ number
   unfolding badFrom
-  turn-bad number z = rw (lines-first (drop at t) some, malformed-if (drop at t) some (sym left-is ∙ z))
+  turn-bad number z = rw (lines-here t at more, malformed-if (drop at t) (some-left t at more) (sym left-is ∙ z))
 
   pub item-bad : line ≡ 0 → item.Bad ≡ itemOf t at
   unfolding itemOf
-  item-bad z = rw (lt-leb (length t) at more, malformed-if (drop at t) some (sym left-is ∙ z))
+  item-bad z = rw (lt-leb (length t) at more, malformed-if (drop at t) (some-left t at more) (sym left-is ∙ z))
 
   -- a turn at a well-formed line
   module _ (nonzero : line ≡ 0 → ⊥) where
@@ -84,11 +93,8 @@ module _ (t : List ℕ) (at line : ℕ) (more : at < length t) (is : line ≡ li
     line-is : line ≡ length (firstLine (drop at t))
     line-is = left-is ∙ length-good (drop at t) formed
 
-    after : drop (length (firstLine (drop at t))) (drop at t) ≡ drop (at + line) t
-    after = ap (λ (n : ℕ). drop n (drop at t)) (sym line-is) ∙ drop-drop line at t
-
     lines : linesOf (drop at t) ≡ firstLine (drop at t) ∷ linesOf (drop (at + line) t)
-    lines = lines-first (drop at t) some ∙ ap (λ (l : List ℕ). firstLine (drop at t) ∷ linesOf l) after
+    lines = lines-here t at more ∙ ap (λ (n : ℕ). firstLine (drop at t) ∷ linesOf (drop (at + n) t)) (sym line-is)
 
     pub turn-good : (number : ℕ) → badFrom number (linesOf (drop at t)) ≡ badFrom (number + 1) (linesOf (drop (at + line) t))
     unfolding badFrom
@@ -129,8 +135,7 @@ module _ (t : List ℕ) (at line : ℕ) (more : at < length t) (is : line ≡ li
     item-request s h e =
         let l : 20 ≤ length (firstLine (drop at t)) = let k = line-is in omega arith in
         let x = long-asks (drop at t) formed l in
-        let w : 8 ≤ length (x .a) = let k = x .whole in omega arith in
-        let q : s ≡ setupOf (x .a ++ x .b) = e ∙ ap (λ (d : List ℕ). setupOf (bytesOf d)) (setup-here t at) ∙ ap setupOf (asks-setup x) ∙ sym (setup-front (x .a) (x .b) w) in
+        let q : s ≡ setupOf (x .a ++ x .b) = setup-asked t at x s e ∙ sym (asks-whole x) in
         ap (λ (z : Setup). item.Request z (at + 19) (at + line)) q ∙ item-is (request (x .a ++ x .b)) (asks-event x)
 
     pub item-digits : 20 ≤ line → allDigits (take (at + 18 - (at + 2)) (drop (at + 2) t)) ≡ true

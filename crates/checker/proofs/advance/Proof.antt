@@ -1,14 +1,15 @@
 -- `checker::advance` meets its contract. Assumes nothing.
 use mathlib.Core.Path.{ap, _∙_, sym}
 use native.Mathlib.Omega.{arith}
+use Rattle.job.proofs.WalkEvents.{formed-here, item-tells}
 use Rattle.checker.specs.declared.Onward.{Onward}
-use Rattle.checker.proofs.Advancing.{ahead-formed, not-at-end, never-bad, attach-advanced, data-within, data-long, data-digits, request-fallen, request-further}
+use Rattle.checker.proofs.Advancing.{attach-advanced, request-fallen, request-further}
 use borrow.Author.Needs.{needs}
 use Rattle.checker.proofs.advance.Statement.{statement}
 use Rattle.checker.proofs.advance.Tie as tie
 
 event-at-requires : tie.Need-event-at-requires
-event-at-requires c κs = let p = c .before .before .pre in (p .4, ahead-formed _ _ (p .3) (p .4))
+event-at-requires c κs = let p = c .before .before .pre in (p .4, formed-here _ _ (p .3) (p .4))
 
 enum-told : tie.Need-enum-told
 enum-told c = search needs
@@ -35,37 +36,37 @@ sub-end : tie.Need-sub-end
 sub-end c =
     let t = c .before in
     let i = t .before .before in
-    let h = data-within _ _ (i .before .before .before .pre .3) _ _ _ (sym (i .event-at .ensures) ∙ t .item2 .given .1) in
-    h .0
+    let x = item-tells _ _ (i .before .before .before .pre .3) _ (sym (i .event-at .ensures) ∙ t .item2 .given .1) in
+    omega (arith, x .ends)
 
 sub-request : tie.Need-sub-request
 sub-request c =
     let t = c .before in
     let i = t .before .before in
-    let h = data-within _ _ (i .before .before .before .pre .3) _ _ _ (sym (i .event-at .ensures) ∙ t .item2 .given .1) in
-    h .1
+    let x = item-tells _ _ (i .before .before .before .pre .3) _ (sym (i .event-at .ensures) ∙ t .item2 .given .1) in
+    omega (arith, x .ends)
 
 part-request-start : tie.Need-part-request-start
 part-request-start c =
     let t = c .before in
     let i = t .before .before in
-    let h = data-within _ _ (i .before .before .before .pre .3) _ _ _ (sym (i .event-at .ensures) ∙ t .item2 .given .1) in
-    omega (arith, h .1, h .2)
+    let x = item-tells _ _ (i .before .before .before .pre .3) _ (sym (i .event-at .ensures) ∙ t .item2 .given .1) in
+    omega (arith, x .ends, x .onward .within)
 
 part-request-end : tie.Need-part-request-end
 part-request-end c =
     let t = c .before in
     let i = t .before .before in
-    let h = data-within _ _ (i .before .before .before .pre .3) _ _ _ (sym (i .event-at .ensures) ∙ t .item2 .given .1) in
-    h .2
+    let x = item-tells _ _ (i .before .before .before .pre .3) _ (sym (i .event-at .ensures) ∙ t .item2 .given .1) in
+    omega (arith, x .onward .within)
 
 request-requires : tie.Need-request-requires
 request-requires c κs =
     let t = c .before .before .before in
     let i = t .before .before in
     let p = i .before .before .before .pre in
-    let e = sym (i .event-at .ensures) ∙ t .item2 .given .1 in
-    (p .0, p .2, data-long _ _ (p .3) _ _ _ e, data-digits _ _ (p .3) _ _ _ e)
+    let x = item-tells _ _ (p .3) _ (sym (i .event-at .ensures) ∙ t .item2 .given .1) in
+    (p .0, p .2, x .long, x .digits)
 
 stuck-requires-3 : tie.Need-stuck-requires-3
 stuck-requires-3 c κs = search needs
@@ -78,26 +79,27 @@ returns c =
     let r = c .before .before .before .before in
     let t = r .before .before .before .before in
     let i = t .before .before in
-    request-fallen _ _ _ _ _ (i .before .before .before .pre .3) _ _ _ (sym (i .event-at .ensures) ∙ t .item2 .given .1) _ _ (r .request .ensures) _ (c .before .if1 .taken) (ap (λ (x : Onward). x .falls) (c .stuck3 .ensures))
+    request-fallen _ _ _ _ _ _ _ _ (item-tells _ _ (i .before .before .before .pre .3) _ (sym (i .event-at .ensures) ∙ t .item2 .given .1)) _ _ (r .request .ensures) _ (c .before .if1 .taken) (ap (λ (x : Onward). x .falls) (c .stuck3 .ensures))
 
 returns-2 : tie.Need-returns-2
 returns-2 c =
     let i = c .before .before .before in
     let p = i .before .before .before .pre in
-    absurd (not-at-end _ _ (p .3) (p .4) (sym (i .event-at .ensures) ∙ c .before .enum-told .given .1))
+    let e = item-tells _ _ (p .3) _ (sym (i .event-at .ensures) ∙ c .before .enum-told .given .1) in
+    absurd (omega (arith, e, p .4))
 
 returns-3 : tie.Need-returns-3
 returns-3 c =
     let i = c .before .before .before in
     let p = i .before .before .before .pre in
-    absurd (never-bad _ _ (p .3) (sym (i .event-at .ensures) ∙ c .before .enum-told2 .given .1))
+    absurd (item-tells _ _ (p .3) _ (sym (i .event-at .ensures) ∙ c .before .enum-told2 .given .1))
 
 returns-4 : tie.Need-returns-4
 returns-4 c =
     let t = c .before .before in
     let i = t .before .before in
     let p = i .before .before .before .pre in
-    attach-advanced _ _ _ _ _ (p .3) (p .1) (p .2) _ _ (sym (i .event-at .ensures) ∙ t .item .given .1) (c .attach .ensures)
+    attach-advanced _ _ _ _ _ (p .1) (p .2) _ _ (item-tells _ _ (p .3) _ (sym (i .event-at .ensures) ∙ t .item .given .1)) (c .attach .ensures)
 
 same-length-2 : tie.Need-same-length-2
 same-length-2 c = search needs
@@ -108,7 +110,7 @@ returns-5 c =
     let t = r .before .before .before .before in
     let i = t .before .before in
     let p = i .before .before .before .pre in
-    request-further _ _ _ _ _ (p .3) _ _ _ (sym (i .event-at .ensures) ∙ t .item2 .given .1) _ _ (r .request .ensures) (p .1) (p .2) (c .before .if1 .left)
+    request-further _ _ _ _ _ _ _ _ (item-tells _ _ (p .3) _ (sym (i .event-at .ensures) ∙ t .item2 .given .1)) _ _ (r .request .ensures) (p .1) (p .2) (c .before .if1 .left)
 
 pub advance-spec : {M : Type 1} → statement M
 advance-spec =

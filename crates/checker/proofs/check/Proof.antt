@@ -2,7 +2,7 @@
 use mathlib.Core.Path.{refl}
 use native.Mathlib.Omega.{arith}
 use Rattle.laws.proofs.Lists.{bytes-all}
-use Rattle.checker.proofs.Judging.{walk-ahead, checked-refused, checked-parts, checked-judged}
+use Rattle.checker.proofs.Judging.{checked-refused, checked-parts, checked-judged}
 use borrow.Author.Needs.{needs}
 use Rattle.checker.proofs.check.Statement.{statement}
 use Rattle.checker.proofs.check.Tie as tie
@@ -21,7 +21,7 @@ judge-requires c κs =
     let a = c .before .before .before in
     let x = a .before .before .before .before .before .args in
     let p = checked-parts _ _ (x .image .now) (x .card .now) (x .work .now) _ (a .admit .ensures) (c .before .enum-told .given .1) in
-    (p .area, omega arith, walk-ahead _ (p .clean), p .supply .most, p .supply .options)
+    (p .area, omega arith, p .clean, p .supply .most, p .supply .options)
 
 returns : tie.Need-returns
 returns c =

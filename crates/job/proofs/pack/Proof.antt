@@ -1,6 +1,6 @@
 -- `job::pack` meets its contract. Assumes nothing.
 use native.Mathlib.Omega.{arith}
-use Rattle.job.proofs.PackLoop.{next-formed, next-some, next-within, next-good, next-total, next-laid, next-room, pack-end}
+use Rattle.job.proofs.PackLoop.{next-formed, next-beyond, next-total, next-laid, next-room, pack-end}
 use Rattle.job.specs.Text.{firstBad, eventsOf}
 use Rattle.job.specs.Event.{packedOf}
 use lib.Seq.{sets}
@@ -41,7 +41,7 @@ pack-line-requires c κs =
     (next-formed _ _ (more (c .before .before)) (l .inv .2), next-room _ _ (more (c .before .before)) (l .inv .2) _ _ _ (l .inv .1) h)
 
 packed-size-requires : tie.Need-packed-size-requires Inv-loop μ-loop
-packed-size-requires c κs = next-some _ _ (more (c .before .before .before .before .before)) (c .before .before .before .before .before .before .loop .inv .2) _ (c .before .before .pack-line .ensures .1)
+packed-size-requires c κs = let b = next-beyond _ _ (more (c .before .before .before .before .before)) (c .before .before .before .before .before .before .loop .inv .2) _ (c .before .before .pack-line .ensures .1) in omega (arith, b .more)
 
 add-to : tie.Need-add-to Inv-loop μ-loop
 add-to c =
@@ -51,13 +51,12 @@ add-to c =
     omega arith
 
 add-from : tie.Need-add-from Inv-loop μ-loop
-add-from c = let h = next-within _ _ (more (c .before .before .before .before .before .before)) (c .before .before .before .before .before .before .before .loop .inv .2) _ (c .before .before .before .pack-line .ensures .1) in omega arith
+add-from c = let b = next-beyond _ _ (more (c .before .before .before .before .before .before)) (c .before .before .before .before .before .before .before .loop .inv .2) _ (c .before .before .before .pack-line .ensures .1) in omega (arith, b .within)
 
 loop-less : tie.Need-loop-less Inv-loop μ-loop
 loop-less c =
-    let h = next-within _ _ (more (c .before .before .before .before .before .before)) (c .before .before .before .before .before .before .before .loop .inv .2) _ (c .before .before .before .pack-line .ensures .1) in
-    let k = next-some _ _ (more (c .before .before .before .before .before .before)) (c .before .before .before .before .before .before .before .loop .inv .2) _ (c .before .before .before .pack-line .ensures .1) in
-    omega arith
+    let b = next-beyond _ _ (more (c .before .before .before .before .before .before)) (c .before .before .before .before .before .before .before .loop .inv .2) _ (c .before .before .before .pack-line .ensures .1) in
+    omega (arith, b .more, b .within)
 
 loop-again : tie.Need-loop-again Inv-loop μ-loop
 loop-again c =
@@ -66,8 +65,9 @@ loop-again c =
     let is = c .before .before .before .pack-line .ensures .1 in
     let n = c .packed-size .ensures .0 in
     let h : length (packedOf (eventsOf (c .before .before .before .before .before .before .before .before .before .before .args .text .now))) ≤ length (l .out) = let k = c .before .before .before .before .before .before .before .before .before .before .pre .1 in omega arith in
-    let w = next-within _ _ m (l .inv .2) _ is in
-    (next-laid _ _ m (l .inv .2) _ is _ _ _ _ (next-room _ _ m (l .inv .2) _ _ _ (l .inv .1) h) n (c .before .before .before .pack-line .ensures .0) ∙ l .inv .0, next-total _ _ m (l .inv .2) _ is _ _ _ n (l .inv .1), next-good _ _ m (l .inv .2) _ is, omega arith, omega arith)
+    let b = next-beyond _ _ m (l .inv .2) _ is in
+    let w = b .within in
+    (next-laid _ _ m (l .inv .2) _ is _ _ _ _ (next-room _ _ m (l .inv .2) _ _ _ (l .inv .1) h) n (c .before .before .before .pack-line .ensures .0) ∙ l .inv .0, next-total _ _ m (l .inv .2) _ is _ _ _ n (l .inv .1), b .clean, omega arith, omega arith)
 
 same-length : tie.Need-same-length Inv-loop μ-loop
 same-length c = c .before .loop .inv .4
