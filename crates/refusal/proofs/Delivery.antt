@@ -1,18 +1,24 @@
 -- An answer's numbers tell which answer it is, and what is delivered in each case. Assumes nothing.
-use mathlib.Core.Path.{_≡_, ap, _∙_, sym}
+use mathlib.Core.Path.{_≡_, refl, ap, ap₂, _∙_, sym}
+use mathlib.Core.Bool.{Bool}
 use mathlib.Core.List.{List, [], _∷_}
-use Prim.Native.Nat.{ℕ, _≤_}
+use Prim.Native.Nat.{ℕ, _≤_, _<_}
 use native.Mathlib.Omega.{arith}
-use lib.Dec.{leb}
+use lib.Dec.{ltb}
 use lib.ListN.{length, getD}
-use borrow.Author.Tests.{le-leb}
+use borrow.Author.Tests.{lt-ltb, le-ltb}
 use Rattle.laws.specs.Bytes.{put}
-use Rattle.laws.proofs.Split.{by-bool}
+use Rattle.refusal.specs.declared.Refusal.{Refusal}
+use Rattle.refusal.specs.declared.Refusal.the-variants.{Output}
+use Rattle.refusal.specs.declared.Admission.{Admission}
+use Rattle.refusal.specs.declared.Admission.the-variants as admission
 use Rattle.refusal.specs.declared.Done.{Done}
 use Rattle.refusal.specs.declared.Done.the-variants.{Bytes, Refused}
 use Rattle.refusal.specs.Refusal.{numberOf}
-use Rattle.refusal.specs.Delivery.{inNumbers, Delivery, delivery, delivered}
+use Rattle.refusal.specs.Order.{firstOf}
+use Rattle.refusal.specs.Delivery.{inNumbers, Delivery, delivery, counted, answered, withOutput, delivered}
 use Rattle.refusal.proofs.Numbers.{refusal-injective, number-some}
+use Rattle.refusal.proofs.Order.{first-here, first-on, first-none, then, then-parts, first-append}
 
 -- the two numbers of an answer
 unfoldable pub first : List ℕ → ℕ
@@ -32,18 +38,57 @@ numbers-injective (Refused r) (Refused s) e = ap Refused (refusal-injective r s 
 pub delivery-injective : (r s : Done) (x y : List ℕ) → delivery r x ≡ delivery s y → (r ≡ s) × (x ≡ y)
 delivery-injective r s x y e = (numbers-injective r s (ap (λ (o : Delivery). o .answer) e), ap (λ (o : Delivery). o .buffer) e)
 
--- what was delivered, where an answer of n bytes was given
-pub delivered-bytes : (xs out : List ℕ) (n : ℕ) → delivered xs out .answer ≡ 0 ∷ n ∷ [] → (n ≡ length xs) × (delivered xs out .buffer ≡ put 0 xs out)
-unfolding delivered first second
-delivered-bytes xs out n e =
-    by-bool (leb (length xs) (length out))
-    (λ h. (sym (ap second (rw h at e)), rw h))
-    (λ h. let z : _≡_ {A = ℕ} 11 0 = ap first (rw h at e) in absurd (omega arith))
+-- the two answers of a call that is taken, and of one that is refused
+pub counted-bytes : (a : Admission) (n m : ℕ) → counted a n ≡ Bytes m → (a ≡ admission.Admitted) × (m ≡ n)
+counted-bytes admission.Admitted n m e = (refl, cc)
+counted-bytes (admission.Refused r) n m e = let z : _≡_ {A = ℕ} 0 1 = cc in absurd (omega arith)
 
-pub delivered-room : (xs out : List ℕ) → length xs ≤ length out → delivered xs out ≡ delivery (Bytes (length xs)) (put 0 xs out)
-unfolding delivered
-delivered-room xs out h = rw (le-leb (length xs) (length out) h)
+pub counted-refused : (a : Admission) (n : ℕ) (r : Refusal) → counted a n ≡ Refused r → a ≡ admission.Refused r
+counted-refused admission.Admitted n r e = let z : _≡_ {A = ℕ} 0 1 = cc in absurd (omega arith)
+counted-refused (admission.Refused s) n r e = cc
 
--- a list delivered under another name
-pub delivers : (xs ys out : List ℕ) → xs ≡ ys → length ys ≤ length out → delivered xs out ≡ delivery (Bytes (length ys)) (put 0 ys out)
-delivers xs ys out e h = ap (λ (l : List ℕ). delivered l out) e ∙ delivered-room ys out h
+answered-bytes : (a : Admission) (xs out : List ℕ) (n : ℕ) → answered a xs out .answer ≡ 0 ∷ n ∷ [] → (a ≡ admission.Admitted) × (n ≡ length xs) × (answered a xs out .buffer ≡ put 0 xs out)
+unfolding first second
+answered-bytes admission.Admitted xs out n e = (refl, sym (ap second e), refl)
+answered-bytes (admission.Refused r) xs out n e = let z : numberOf r ≡ 0 = ap first e in let h = number-some r in absurd (omega arith)
+
+answered-refused : (a : Admission) (xs out y : List ℕ) (r : Refusal) → answered a xs out ≡ delivery (Refused r) y → a ≡ admission.Refused r
+answered-refused admission.Admitted xs out y r e = let z = delivery-injective (Bytes (length xs)) (Refused r) (put 0 xs out) y e .0 in counted-refused admission.Admitted (length xs) r z
+answered-refused (admission.Refused s) xs out y r e = counted-refused (admission.Refused s) 0 r (delivery-injective (Refused s) (Refused r) out y e .0)
+
+-- what is delivered, by what the refusals before row 11 come to
+module _ (rs : List (Refusal × Bool)) (xs out : List ℕ) where
+  abbrev short : List (Refusal × Bool)
+  short = (Output, ltb (length out) (length xs)) ∷ []
+
+  last : (a : Admission) → firstOf rs ≡ a → firstOf (withOutput rs xs out) ≡ then a (firstOf short)
+  last a e = first-append rs short ∙ ap (λ (x : Admission). then x (firstOf short)) e
+
+  pub delivers-refusal : (r : Refusal) → firstOf rs ≡ admission.Refused r → delivery (Refused r) out ≡ delivered rs xs out
+  unfolding delivered
+  delivers-refusal r e = rw (last (admission.Refused r) e)
+
+  module _ (free : firstOf rs ≡ admission.Admitted) where
+    pub delivers-eleven : length out < length xs → delivery (Refused Output) out ≡ delivered rs xs out
+    unfolding delivered
+    delivers-eleven h = rw (last admission.Admitted free ∙ first-here _ _ _ (lt-ltb (length out) (length xs) h))
+
+    pub delivers-output : length xs ≤ length out → delivered rs xs out ≡ delivery (Bytes (length xs)) (put 0 xs out)
+    unfolding delivered
+    delivers-output h = rw (last admission.Admitted free ∙ first-on _ _ _ (le-ltb (length out) (length xs) h) ∙ first-none)
+
+    -- by another name of the length and of the buffer
+    pub delivers-bytes : (n : ℕ) (y : List ℕ) → n ≡ length xs → length xs ≤ length out → y ≡ put 0 xs out → delivery (Bytes n) y ≡ delivered rs xs out
+    delivers-bytes n y e h p = ap₂ (λ (k : ℕ) (l : List ℕ). delivery (Bytes k) l) e p ∙ sym (delivers-output h)
+
+  -- an answer of n bytes: none of the refusals applied, and the bytes are in front of the buffer
+  pub delivered-bytes : (n : ℕ) → delivered rs xs out .answer ≡ 0 ∷ n ∷ [] → (firstOf rs ≡ admission.Admitted) × (n ≡ length xs) × (delivered rs xs out .buffer ≡ put 0 xs out)
+  unfolding delivered
+  delivered-bytes n e =
+      let b = answered-bytes (firstOf (withOutput rs xs out)) xs out n e in
+      (then-parts (firstOf rs) (firstOf short) (sym (first-append rs short) ∙ b .0) .0, b .1, b .2)
+
+  -- a refusal is one of these, or row 11
+  pub delivered-refusal : (r : Refusal) (y : List ℕ) → delivered rs xs out ≡ delivery (Refused r) y → firstOf (withOutput rs xs out) ≡ admission.Refused r
+  unfolding delivered
+  delivered-refusal r y e = answered-refused (firstOf (withOutput rs xs out)) xs out y r e

@@ -1,14 +1,18 @@
 -- What a call with an output answers, and what the lent buffer holds then. Document 01, "Refusal numbers". Assumes nothing.
-use mathlib.Core.Bool.{cond}
-use mathlib.Core.List.{List, [], _∷_}
+use mathlib.Core.Bool.{Bool}
+use mathlib.Core.List.{List, [], _∷_, _++_}
 use Prim.Native.Nat.{ℕ}
-use lib.Dec.{leb}
+use lib.Dec.{ltb}
 use lib.ListN.{length}
 use Rattle.laws.specs.Bytes.{put}
+use Rattle.refusal.specs.declared.Refusal.{Refusal}
 use Rattle.refusal.specs.declared.Refusal.the-variants.{Output}
+use Rattle.refusal.specs.declared.Admission.{Admission}
+use Rattle.refusal.specs.declared.Admission.the-variants as admission
 use Rattle.refusal.specs.declared.Done.{Done}
 use Rattle.refusal.specs.declared.Done.the-variants.{Bytes, Refused}
 use Rattle.refusal.specs.Refusal.{numberOf, lineNamed}
+use Rattle.refusal.specs.Order.{firstOf}
 
 -- an answer in numbers: 0 and how many bytes; or the refusal's number and the line that it names
 abbrev pub inNumbers : Done → List ℕ
@@ -20,10 +24,24 @@ pub record Delivery : Type 0 where
   pub answer : List ℕ
   pub buffer : List ℕ
 
--- what a function returned, and delivery in the buffer
+-- what a function returned, and left in the buffer
 abbrev pub delivery : Done → List ℕ → Delivery
 delivery r out = record { answer = inNumbers r; buffer = out }
 
--- row 11, "11 comes last"; "An output buffer keeps its bytes past the output"
-unfoldable pub delivered : List ℕ → List ℕ → Delivery
-delivered xs out = cond (leb (length xs) (length out)) (delivery (Bytes (length xs)) (put 0 xs out)) (delivery (Refused Output) out)
+-- a call that is taken has n bytes to put out
+abbrev pub counted : Admission → ℕ → Done
+counted admission.Admitted n = Bytes n
+counted (admission.Refused r) n = Refused r
+
+-- "A refusal leaves state and every buffer unchanged. An output buffer keeps its bytes past the output"
+abbrev pub answered : Admission → List ℕ → List ℕ → Delivery
+answered admission.Admitted xs out = delivery (Bytes (length xs)) (put 0 xs out)
+answered (admission.Refused r) xs out = delivery (Refused r) out
+
+-- a call's refusals and, behind them, row 11: "output buffer too short", "11 comes last"
+abbrev pub withOutput : List (Refusal × Bool) → List ℕ → List ℕ → List (Refusal × Bool)
+withOutput rs xs out = rs ++ ((Output, ltb (length out) (length xs)) ∷ [])
+
+-- a call with these refusals whose output is xs
+unfoldable pub delivered : List (Refusal × Bool) → List ℕ → List ℕ → Delivery
+delivered rs xs out = answered (firstOf (withOutput rs xs out)) xs out

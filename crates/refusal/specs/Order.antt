@@ -1,21 +1,38 @@
--- The order of refusals. Document 01, "Refusal numbers", the sentence over the table. Assumes nothing.
-use mathlib.Core.Bool.{Bool, true, false, cond, _||_}
+-- The order of refusals, and the one that a call gives. Document 01, "Refusal numbers", the sentence over the table. Assumes nothing.
+use mathlib.Core.Bool.{Bool, true, false, cond, _&&_, _||_}
 use mathlib.Core.List.{List, [], _∷_}
 use Prim.Native.Nat.{ℕ}
-use lib.Dec.{eqb, ltb}
+use lib.Dec.{eqb}
 use Rattle.refusal.specs.declared.Refusal.{Refusal}
+use Rattle.refusal.specs.declared.Admission.{Admission}
+use Rattle.refusal.specs.declared.Admission.the-variants.{Admitted, Refused}
 use Rattle.refusal.specs.Refusal.{numberOf}
 
--- "Checked in this order within each call, but 11 comes last and 13 first": the place of a refusal's number
-abbrev pub placeOf : ℕ → ℕ
-placeOf k = cond (eqb k 13) 0 (cond (eqb k 11) 14 k)
-
--- of two refusals' numbers the one whose place is first; 0 is the number of none
-abbrev pub sooner : ℕ → ℕ → ℕ
-sooner j k = cond (ltb (placeOf j) (placeOf k) || eqb k 0) j k
-
--- of the refusals of a call, each with whether it applies, the number of the first that does, or 0 where none does
-unfoldable pub firstOf : List (Refusal × Bool) → ℕ
-firstOf [] = 0
+-- a call's refusals stand in one list, each with whether it applies: the first that does is given
+unfoldable pub firstOf : List (Refusal × Bool) → Admission
+firstOf [] = Admitted
 firstOf ((r, false) ∷ xs) = firstOf xs
-firstOf ((r, true) ∷ xs) = sooner (numberOf r) (firstOf xs)
+firstOf ((r, true) ∷ xs) = Refused r
+
+-- "this order": the table's, from top to bottom
+abbrev pub rows : List ℕ
+rows = 1 ∷ 2 ∷ 3 ∷ 4 ∷ 5 ∷ 6 ∷ 7 ∷ 8 ∷ 9 ∷ 10 ∷ 11 ∷ 12 ∷ 13 ∷ []
+
+-- going down these numbers, j is met, and k not before it
+unfoldable pub met : List ℕ → ℕ → ℕ → Bool
+met [] j k = false
+met (x ∷ xs) j k = cond (eqb x k) false (cond (eqb x j) true (met xs j k))
+
+-- "Checked in this order within each call, but 11 comes last and 13 first": the number j before the number k
+unfoldable pub before : ℕ → ℕ → Bool
+before j k = cond (eqb j 11 || eqb k 13) false (cond (eqb j 13 || eqb k 11) true (met rows j k))
+
+-- the number j before those of all these
+unfoldable pub beforeAll : ℕ → List (Refusal × Bool) → Bool
+beforeAll j [] = true
+beforeAll j (x ∷ xs) = before j (numberOf (x .0)) && beforeAll j xs
+
+-- a call's list keeps that order
+unfoldable pub inOrder : List (Refusal × Bool) → Bool
+inOrder [] = true
+inOrder (x ∷ xs) = beforeAll (numberOf (x .0)) xs && inOrder xs
