@@ -1,14 +1,12 @@
 -- `board::Board::supplied` meets its contract. Assumes nothing.
 use mathlib.Core.Path.{sym}
-use Rattle.board.specs.Supply.{supplied}
-use Rattle.board.proofs.Supply.{image-long, card-odd, supply-good}
+use Rattle.board.proofs.Supply.{image-empty, image-long, card-odd, supply-good}
 use borrow.Author.Needs.{needs}
 use Rattle.board.proofs.Board.supplied.Statement.{statement}
 use Rattle.board.proofs.Board.supplied.Tie as tie
 
 returns : tie.Need-returns
-unfolding supplied
-returns c = simp (c .if1 .taken)
+returns c = sym (image-empty _ _ _ (c .if1 .taken))
 
 flash-bytes-requires : tie.Need-flash-bytes-requires
 flash-bytes-requires c κs = search needs
