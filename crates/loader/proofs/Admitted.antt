@@ -1,27 +1,27 @@
--- Laws of `admittedOf` and `stepOf`: what each admission comes to, and that an admitted request is in order. Assumes nothing.
-use mathlib.Core.Path.{_≡_}
-use mathlib.Core.List.{List}
+-- Laws of `admittedOf` and `stepOf`: what each row and each admission comes to, and that a request is admitted where all is in order. Assumes nothing.
+use mathlib.Core.Path.{_≡_, _∙_, sym}
+use mathlib.Core.Bool.{true, false}
+use mathlib.Core.List.{List, [], _∷_}
 use Prim.Native.Nat.{ℕ}
-use native.Mathlib.Omega.{arith}
-use lib.Dec.{eqb}
-use lib.ListN.{length}
-use borrow.Author.Tests.{eqb-true}
-use Rattle.laws.proofs.Split.{by-bool}
+use lib.ListN.{drop}
+use borrow.Author.Tests.{eq-eqb, ne-eqb, eqb-true, not-false}
 use Rattle.board.specs.Layout.{memoryBytes}
-use Rattle.refusal.specs.declared.Refusal.{Refusal}
+use Rattle.refusal.specs.declared.Refusal.the-variants as refusal
+use Rattle.refusal.specs.declared.Admission.{Admission}
+use Rattle.refusal.specs.declared.Admission.the-variants as admission
+use Rattle.refusal.specs.Order.{firstOf}
+use Rattle.refusal.proofs.Order.{first-here, first-on, first-none, first-exactly}
 use Rattle.request.specs.Request.{transferBytes}
-use Rattle.request.specs.Setup.{fitsOf}
 use Rattle.device.specs.declared.Device.{Device}
 use Rattle.device.specs.State.{started}
 use Rattle.device.specs.WellFormed.{wellFormed}
 use Rattle.loader.specs.declared.Event.{Event}
 use Rattle.loader.specs.declared.Event.the-variants as event
 use Rattle.loader.specs.declared.Answer.the-variants.{Accepted}
-use Rattle.refusal.specs.declared.Admission.{Admission}
-use Rattle.refusal.specs.declared.Admission.the-variants as admission
+use Rattle.loader.specs.declared.Sizes.{Sizes}
 use Rattle.loader.specs.Answer.{outcome}
 use Rattle.loader.specs.Serve.{InOrder, serveOf}
-use Rattle.loader.specs.Step.{sizesOf, admittedOf, steps, stepOf}
+use Rattle.loader.specs.Step.{misfits, stepRefusals, sizesOf, admittedOf, steps, stepOf}
 
 module _ (n : ℕ) (d : Device) (e : Event) (q m b y : List ℕ) (made : Admission) (is : made ≡ admittedOf n d e q (sizesOf m b y)) where
   -- x is the admission that was found
@@ -37,24 +37,57 @@ module _ (n : ℕ) (d : Device) (e : Event) (q m b y : List ℕ) (made : Admissi
   unfolding stepOf
   step-serves t r = rw (← is, t, r)
 
-not-admitted : (r : Refusal) → admission.Refused r ≡ admission.Admitted → ⊥
-not-admitted r e = let z : _≡_ {A = ℕ} 0 1 = cc in omega arith
+-- the rows in turn: each is reached where those before it do not apply
+module _ (n : ℕ) (d : Device) (e : Event) (q : List ℕ) (s : Sizes) where
+  abbrev from : ℕ → Admission
+  from k = firstOf (drop k (stepRefusals n d e q s))
 
+  pub admit-memory : (s .memory ≡ memoryBytes n → ⊥) → admission.Refused refusal.Memory ≡ admittedOf n d e q s
+  unfolding admittedOf
+  admit-memory odd = sym (first-here _ _ _ (rw (ne-eqb _ _ odd)))
+
+  module _ (memory : s .memory ≡ memoryBytes n) where
+    past-memory : admittedOf n d e q s ≡ from 1
+    unfolding admittedOf
+    past-memory = first-on _ _ _ (rw (eq-eqb _ _ memory))
+
+    pub admit-block : (s .block ≡ transferBytes → ⊥) → admission.Refused refusal.Block ≡ admittedOf n d e q s
+    admit-block odd = sym (past-memory ∙ first-here _ _ _ (rw (ne-eqb _ _ odd)))
+
+    module _ (block : s .block ≡ transferBytes) where
+      past-block : admittedOf n d e q s ≡ from 2
+      past-block = past-memory ∙ first-on _ _ _ (rw (eq-eqb _ _ block))
+
+      pub admit-reply : (s .reply ≡ transferBytes → ⊥) → admission.Refused refusal.Reply ≡ admittedOf n d e q s
+      admit-reply odd = sym (past-block ∙ first-here _ _ _ (rw (ne-eqb _ _ odd)))
+
+      module _ (reply : s .reply ≡ transferBytes) where
+        past-reply : admittedOf n d e q s ≡ from 3
+        past-reply = past-block ∙ first-on _ _ _ (rw (eq-eqb _ _ reply))
+
+        pub admit-state : wellFormed n d ≡ false → admission.Refused refusal.State ≡ admittedOf n d e q s
+        admit-state odd = sym (past-reply ∙ first-here _ _ _ (rw odd))
+
+        module _ (form : wellFormed n d ≡ true) where
+          pub admit-last : (a : Admission) → a ≡ firstOf ((refusal.Request, misfits e q) ∷ []) → a ≡ admittedOf n d e q s
+          admit-last a is = is ∙ sym (past-reply ∙ first-on _ _ _ (rw form))
+
+          pub admit-all : misfits e q ≡ false → admittedOf n d e q s ≡ admission.Admitted
+          admit-all fit = sym (admit-last _ (sym (first-on _ _ _ fit ∙ first-none)))
+
+-- where no row applies, all is in order
 pub admitted-in-order : (n : ℕ) (d : Device) (q m b y : List ℕ) → admittedOf n d event.Request q (sizesOf m b y) ≡ admission.Admitted → InOrder n d q m b y
 unfolding admittedOf
 admitted-in-order n d q m b y e =
-    by-bool (eqb (length m) (memoryBytes n))
-    (λ hm.
-    by-bool (eqb (length b) transferBytes)
-    (λ hb.
-    by-bool (eqb (length y) transferBytes)
-    (λ hy.
-    by-bool (wellFormed n d)
-    (λ hd.
-    by-bool (fitsOf q)
-    (λ hq. record { memory = eqb-true _ _ hm; block = eqb-true _ _ hb; reply = eqb-true _ _ hy; device = hd; request = hq })
-    (λ hq. absurd (not-admitted _ (rw (hm, hb, hy, hd, hq) at e))))
-    (λ hd. absurd (not-admitted _ (rw (hm, hb, hy, hd) at e))))
-    (λ hy. absurd (not-admitted _ (rw (hm, hb, hy) at e))))
-    (λ hb. absurd (not-admitted _ (rw (hm, hb) at e))))
-    (λ hm. absurd (not-admitted _ (rw hm at e)))
+    let none = first-exactly (stepRefusals n d event.Request q (sizesOf m b y)) admission.Admitted .0 e in
+    record {
+      memory = eqb-true _ _ (not-false _ (none .0));
+      block = eqb-true _ _ (not-false _ (none .1 .0));
+      reply = eqb-true _ _ (not-false _ (none .1 .1 .0));
+      device = not-false _ (none .1 .1 .1 .0);
+      request = not-false _ (none .1 .1 .1 .1 .0);
+    }
+
+-- and the other way round
+pub in-order-admitted : (n : ℕ) (d : Device) (q m b y : List ℕ) → InOrder n d q m b y → admittedOf n d event.Request q (sizesOf m b y) ≡ admission.Admitted
+in-order-admitted n d q m b y i = admit-all n d event.Request q (sizesOf m b y) (i .memory) (i .block) (i .reply) (i .device) (rw (i .request))

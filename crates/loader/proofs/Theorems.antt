@@ -1,12 +1,13 @@
 -- What demands 1 and 2 say of a step, for a reader who takes `stepOf` from specs/ as what document 01 says. Assumes nothing.
-use mathlib.Core.Path.{_≡_, ap, _∙_, sym}
+use mathlib.Core.Path.{_≡_, _∙_, sym}
 use mathlib.Core.Bool.{true}
 use mathlib.Core.List.{List}
 use Prim.Native.Nat.{ℕ, _≤_}
 use Rattle.board.specs.Layout.{loggerPages}
 use Rattle.refusal.specs.declared.Refusal.{Refusal}
 use Rattle.refusal.specs.Refusal.{numberOf}
-use Rattle.refusal.proofs.Order.{Applies, First, first-none, first-first}
+use Rattle.refusal.specs.Order.{before}
+use Rattle.refusal.proofs.Order.{NoneApply, First, first-exactly, Applies, none-before}
 use Rattle.device.specs.declared.Device.{Device}
 use Rattle.device.specs.WellFormed.{wellFormed}
 use Rattle.device.proofs.Form.{form-of, well-formed}
@@ -15,10 +16,9 @@ use Rattle.loader.specs.declared.Stepped.{Stepped}
 use Rattle.loader.specs.declared.Answer.the-variants as answer
 use Rattle.refusal.specs.declared.Admission.the-variants as admission
 use Rattle.loader.specs.Answer.{outcome, left}
-use Rattle.loader.specs.Faults.{faultsOf}
-use Rattle.loader.specs.Step.{sizesOf, admittedOf, stepOf}
+use Rattle.loader.specs.Step.{stepRefusals, sizesOf, admittedOf, stepOf}
 use Rattle.loader.proofs.Outcomes.{left-stepped, left-memory, left-block, left-reply}
-use Rattle.loader.proofs.Order.{refusedBy, admitted-order}
+use Rattle.loader.proofs.Order.{step-in-order}
 use Rattle.loader.proofs.Form.{step-form}
 
 -- what the promise of `step` allows, for one call
@@ -38,12 +38,19 @@ module _ (n : ℕ) (d : Device) (e : Event) (q m b y : List ℕ) where
   refused-changes-nothing r a = rw a
 
   -- a refusal is the first row that applies
-  pub refused-first : (r : Refusal) → admittedOf n d e q (sizesOf m b y) ≡ admission.Refused r → First (faultsOf n d e q (sizesOf m b y)) (numberOf r)
-  refused-first r a = first-first (faultsOf n d e q (sizesOf m b y)) r (sym (admitted-order n d e q (sizesOf m b y)) ∙ ap refusedBy a)
+  pub refused-first : (r : Refusal) → admittedOf n d e q (sizesOf m b y) ≡ admission.Refused r → First (stepRefusals n d e q (sizesOf m b y)) r
+  unfolding admittedOf
+  refused-first r a = first-exactly (stepRefusals n d e q (sizesOf m b y)) (admission.Refused r) .0 a
+
+  -- so none applies whose number comes before its own
+  pub refused-in-order : (r : Refusal) → admittedOf n d e q (sizesOf m b y) ≡ admission.Refused r → (k : ℕ) → before k (numberOf r) ≡ true → Applies (stepRefusals n d e q (sizesOf m b y)) k → ⊥
+  unfolding admittedOf
+  refused-in-order r a = none-before (stepRefusals n d e q (sizesOf m b y)) r (step-in-order n d e q (sizesOf m b y)) a
 
   -- where no refusal is given, no row applies
-  pub admitted-faultless : admittedOf n d e q (sizesOf m b y) ≡ admission.Admitted → (k : ℕ) → Applies (faultsOf n d e q (sizesOf m b y)) k → ⊥
-  admitted-faultless a = first-none (faultsOf n d e q (sizesOf m b y)) (sym (admitted-order n d e q (sizesOf m b y)) ∙ ap refusedBy a)
+  pub admitted-faultless : admittedOf n d e q (sizesOf m b y) ≡ admission.Admitted → NoneApply (stepRefusals n d e q (sizesOf m b y))
+  unfolding admittedOf
+  admitted-faultless a = first-exactly (stepRefusals n d e q (sizesOf m b y)) admission.Admitted .0 a
 
   -- a well-formed state stays well formed, so that no run of events ends in refusal 4
   pub step-keeps-form : 1 ≤ n → wellFormed n d ≡ true → wellFormed n (stepOf n d e q m b y .device) ≡ true

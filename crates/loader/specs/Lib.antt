@@ -2,4 +2,3 @@ pub mod Answer
 pub mod Perform
 pub mod Serve
 pub mod Step
-pub mod Faults

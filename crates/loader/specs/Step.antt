@@ -1,11 +1,15 @@
 -- One event. Document 01, "Events" and the rows of "Refusal numbers" that name step. Assumes nothing.
-use mathlib.Core.Bool.{cond, not}
-use mathlib.Core.List.{List}
+use mathlib.Core.Bool.{Bool, false, not}
+use mathlib.Core.List.{List, [], _∷_}
 use Prim.Native.Nat.{ℕ}
 use lib.Dec.{eqb}
 use lib.ListN.{length}
 use Rattle.board.specs.Layout.{memoryBytes}
+use Rattle.refusal.specs.declared.Refusal.{Refusal}
 use Rattle.refusal.specs.declared.Refusal.the-variants as refusal
+use Rattle.refusal.specs.declared.Admission.{Admission}
+use Rattle.refusal.specs.declared.Admission.the-variants as admission
+use Rattle.refusal.specs.Order.{firstOf}
 use Rattle.request.specs.Request.{transferBytes}
 use Rattle.request.specs.Setup.{fitsOf}
 use Rattle.device.specs.declared.Device.{Device}
@@ -15,24 +19,27 @@ use Rattle.loader.specs.declared.Event.{Event}
 use Rattle.loader.specs.declared.Event.the-variants as event
 use Rattle.loader.specs.declared.Answer.the-variants.{Accepted, Refused}
 use Rattle.loader.specs.declared.Sizes.{Sizes}
-use Rattle.refusal.specs.declared.Admission.{Admission}
-use Rattle.refusal.specs.declared.Admission.the-variants as admission
 use Rattle.loader.specs.Answer.{Outcome, outcome}
 use Rattle.loader.specs.Serve.{serveOf}
 
--- row 5, which is of requests alone
-abbrev pub admittedIn : Event → List ℕ → Admission
-admittedIn event.Attach q = admission.Admitted
-admittedIn event.Request q = cond (fitsOf q) admission.Admitted (admission.Refused refusal.Request)
+-- row 5, which is of requests alone: "request under 8 bytes, or wrong data length"
+abbrev pub misfits : Event → List ℕ → Bool
+misfits event.Attach q = false
+misfits event.Request q = not (fitsOf q)
 
--- rows 1 to 5, "checked in this order"
+-- rows 1 to 5
+abbrev pub stepRefusals : ℕ → Device → Event → List ℕ → Sizes → List (Refusal × Bool)
+stepRefusals n d e q s =
+    (refusal.Memory, not (eqb (s .memory) (memoryBytes n)))
+    ∷ (refusal.Block, not (eqb (s .block) transferBytes))
+    ∷ (refusal.Reply, not (eqb (s .reply) transferBytes))
+    ∷ (refusal.State, not (wellFormed n d))
+    ∷ (refusal.Request, misfits e q)
+    ∷ []
+
+-- the first of them
 unfoldable pub admittedOf : ℕ → Device → Event → List ℕ → Sizes → Admission
-admittedOf n d e q s =
-    cond (not (eqb (s .memory) (memoryBytes n))) (admission.Refused refusal.Memory)
-    (cond (not (eqb (s .block) transferBytes)) (admission.Refused refusal.Block)
-    (cond (not (eqb (s .reply) transferBytes)) (admission.Refused refusal.Reply)
-    (cond (not (wellFormed n d)) (admission.Refused refusal.State)
-    (admittedIn e q))))
+admittedOf n d e q s = firstOf (stepRefusals n d e q s)
 
 -- "Attach .. its answer is Accepted and all buffers stay", or a request
 abbrev pub happens : Event → ℕ → Device → List ℕ → List ℕ → List ℕ → List ℕ → Outcome

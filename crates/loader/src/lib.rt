@@ -2,10 +2,11 @@
 // functions of the crates above, and acts on the buffers here.
 ghost use mathlib.Core.Path.{_≡_};
 ghost use mathlib.Core.Bool.{true};
-ghost use mathlib.Core.List.{List};
+ghost use mathlib.Core.List.{List, [], _∷_};
 ghost use Prim.Native.Nat.{ℕ, _+_, _≤_};
 ghost use lib.ListN.{length, take};
 ghost use Rattle.laws.specs.Bytes.{put};
+ghost use Rattle.refusal.specs.Order.{firstOf};
 ghost use Rattle.board.specs.Layout.{loggerPages, memoryBytes};
 ghost use Rattle.request.specs.Request.{transferBytes};
 ghost use Rattle.device.specs.Wire.{isMode};
@@ -13,7 +14,7 @@ ghost use Rattle.device.specs.WellFormed.{wellFormed};
 ghost use Rattle.loader.specs.Answer.{left};
 ghost use Rattle.loader.specs.Perform.{performed, performedOf, writtenOf, endOf, countOf};
 ghost use Rattle.loader.specs.Serve.{InOrder, run, runOf, statusBytes, statusOf, pollOf, uploadedOf, sentOf, serveOf, commandCodes};
-ghost use Rattle.loader.specs.Step.{admittedOf, admittedIn, stepOf};
+ghost use Rattle.loader.specs.Step.{misfits, admittedOf, stepOf};
 use action::Access;
 use action::Action;
 use board::Board;
@@ -111,7 +112,7 @@ fn admit(board: Board, device: Device, event: Event, request: &[u8], sizes: Size
 }
 
 fn admit_request(request: &[u8]) -> Admission
-    ensures { λ r. ⌜ r ≡ admittedIn Event.Request (now (request .entry)) ⌝ }
+    ensures { λ r. ⌜ r ≡ firstOf ((Refusal.Request, misfits Event.Request (now (request .entry))) ∷ []) ⌝ }
 {
     if request::fits(request) {
         return Admission::Admitted;

@@ -1,7 +1,7 @@
 -- `loader::admit` meets its contract. Assumes nothing.
-use Rattle.loader.specs.Step.{admittedOf}
-use borrow.Author.Tests.{eq-eqb, ne-eqb, not-true, not-false}
+use borrow.Author.Tests.{not-true, not-false}
 use mathlib.Core.Path.{sym, _∙_}
+use Rattle.loader.proofs.Admitted.{admit-memory, admit-block, admit-reply, admit-state, admit-last, admit-all}
 use borrow.Author.Needs.{needs}
 use Rattle.loader.proofs.admit.Statement.{statement}
 use Rattle.loader.proofs.admit.Tie as tie
@@ -10,43 +10,36 @@ memory-bytes-requires : tie.Need-memory-bytes-requires
 memory-bytes-requires c κs = search needs
 
 returns : tie.Need-returns
-unfolding admittedOf
 returns c =
     let is = c .before .before .memory-bytes .ensures in
-    simp (ne-eqb _ _ (λ e. c .if1 .taken (e ∙ sym is)))
+    admit-memory _ _ _ _ _ (λ e. c .if1 .taken (e ∙ sym is))
 
 cast-if2 : tie.Need-cast-if2
 cast-if2 c = search needs
 
 returns-2 : tie.Need-returns-2
-unfolding admittedOf
 returns-2 c =
     let m = c .before .before in
-    let is = m .before .before .memory-bytes .ensures in
-    simp (eq-eqb _ _ (m .if1 .left ∙ is), ne-eqb _ _ (c .if2 .taken))
+    admit-block _ _ _ _ _ (m .if1 .left ∙ m .before .before .memory-bytes .ensures) (c .if2 .taken)
 
 cast-if3 : tie.Need-cast-if3
 cast-if3 c = search needs
 
 returns-3 : tie.Need-returns-3
-unfolding admittedOf
 returns-3 c =
     let b = c .before .before in
     let m = b .before .before in
-    let is = m .before .before .memory-bytes .ensures in
-    simp (eq-eqb _ _ (m .if1 .left ∙ is), b .if2 .left, ne-eqb _ _ (c .if3 .taken))
+    admit-reply _ _ _ _ _ (m .if1 .left ∙ m .before .before .memory-bytes .ensures) (b .if2 .left) (c .if3 .taken)
 
 well-formed-requires : tie.Need-well-formed-requires
 well-formed-requires c κs = search needs
 
 returns-4 : tie.Need-returns-4
-unfolding admittedOf
 returns-4 c =
     let y = c .before .before in
     let b = y .before .before in
     let m = b .before .before in
-    let is = m .before .before .memory-bytes .ensures in
-    simp (eq-eqb _ _ (m .if1 .left ∙ is), b .if2 .left, y .if3 .left, sym (c .before .well-formed .ensures) ∙ not-true _ (c .if4 .taken))
+    admit-state _ _ _ _ _ (m .if1 .left ∙ m .before .before .memory-bytes .ensures) (b .if2 .left) (y .if3 .left) (sym (c .before .well-formed .ensures) ∙ not-true _ (c .if4 .taken))
 
 enum-told : tie.Need-enum-told
 enum-told c = search needs
@@ -58,24 +51,20 @@ admit-request-requires : tie.Need-admit-request-requires
 admit-request-requires c κs = search needs
 
 returns-5 : tie.Need-returns-5
-unfolding admittedOf
 returns-5 c =
     let w = c .before .before in
     let y = w .before .before in
     let b = y .before .before in
     let m = b .before .before in
-    let is = m .before .before .memory-bytes .ensures in
-    simp (eq-eqb _ _ (m .if1 .left ∙ is), b .if2 .left, y .if3 .left, sym (w .before .well-formed .ensures) ∙ not-false _ (w .if4 .left), c .enum-told .given .1)
+    sym (admit-all _ _ _ _ _ (m .if1 .left ∙ m .before .before .memory-bytes .ensures) (b .if2 .left) (y .if3 .left) (sym (w .before .well-formed .ensures) ∙ not-false _ (w .if4 .left)) (rw (c .enum-told .given .1)))
 
 returns-6 : tie.Need-returns-6
-unfolding admittedOf
 returns-6 c =
     let w = c .before .before .before in
     let y = w .before .before in
     let b = y .before .before in
     let m = b .before .before in
-    let is = m .before .before .memory-bytes .ensures in
-    simp (c .admit-request .ensures, eq-eqb _ _ (m .if1 .left ∙ is), b .if2 .left, y .if3 .left, sym (w .before .well-formed .ensures) ∙ not-false _ (w .if4 .left), c .before .enum-told2 .given .1)
+    admit-last _ _ _ _ _ (m .if1 .left ∙ m .before .before .memory-bytes .ensures) (b .if2 .left) (y .if3 .left) (sym (w .before .well-formed .ensures) ∙ not-false _ (w .if4 .left)) _ (rw (c .before .enum-told2 .given .1) (c .admit-request .ensures))
 
 pub admit-spec : {M : Type 1} → statement M
 admit-spec =
