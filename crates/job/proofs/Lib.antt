@@ -3,6 +3,7 @@ pub mod Spelling
 pub mod FirstLine
 pub mod Formed
 pub mod LineLength
+pub mod Refusals
 pub mod Walking
 pub mod Known
 pub mod Packing

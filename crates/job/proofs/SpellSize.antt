@@ -20,6 +20,7 @@ use Rattle.job.specs.Calls.{sizeOf}
 use Rattle.job.proofs.Spelling.{spelled-size}
 use Rattle.job.proofs.EventPacked.{size-some, pieces-first, well-pack, well-fits}
 use Rattle.job.proofs.PieceLength.{piece-good, piece-bad}
+use Rattle.job.proofs.Refusals.{packed-broken, packed-whole}
 
 capped-over : (n : ℕ) → limit < n → limit + 1 ≡ capped n
 unfolding capped
@@ -161,7 +162,7 @@ module _ (p : List ℕ) (at piece : ℕ) (more : at < length p) (is : piece ≡ 
 -- the end of the walk
 pub size-broken : (p : List ℕ) → packs p ≡ false → Refused Request ≡ sizeOf p
 unfolding sizeOf
-size-broken p h = rw h
+size-broken p h = rw (packed-broken p h)
 
 pub size-end : (p : List ℕ) (at size : ℕ) → length p ≤ at → size ≤ limit + 1 → packs (drop at p) ≡ packs p → capped (size + length (textOf (unpacked (drop at p)))) ≡ capped (length (textOf (unpacked p))) → Bytes size ≡ sizeOf p
 unfolding sizeOf packs allPacked piecesAfter unpacked eventsAmong textOf
@@ -170,4 +171,4 @@ size-end p at size h small b s =
     let t : true ≡ allPacked (piecesAfter 0 p) = rw d at b in
     let n : capped (size + 0) ≡ capped (length (textOf (eventsAmong (piecesAfter 0 p)))) = rw d at s in
     let z : size + 0 ≡ size = omega arith in
-    rw (sym t) (ap Bytes (sym (capped-once size small) ∙ ap capped (sym z) ∙ n))
+    rw (packed-whole p (sym t)) (ap Bytes (sym (capped-once size small) ∙ ap capped (sym z) ∙ n))

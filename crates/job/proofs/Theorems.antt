@@ -13,12 +13,13 @@ use Rattle.refusal.specs.declared.Done.the-variants.{Bytes, Refused}
 use Rattle.job.specs.Event.{Event, proper, textOf, packedOf}
 use Rattle.job.specs.Text.{limit, linesOf, firstBad, eventsOf}
 use Rattle.job.specs.Packed.{unpacked}
-use Rattle.refusal.specs.Delivery.{inNumbers, delivery}
-use Rattle.job.specs.Calls.{measureOf, readOf, writeOf}
+use Rattle.refusal.specs.Delivery.{inNumbers, delivery, delivered}
+use Rattle.job.specs.Calls.{textRefusals, measureOf, readOf, writeRefusals, writeOf}
 use Rattle.job.proofs.EventText.{text-clean, text-events, good-text, good-proper, Names, named-from-one}
 use Rattle.job.proofs.EventPacked.{packed-packs, packed-events, packs-packed, packs-proper}
-use Rattle.refusal.proofs.Delivery.{numbers-injective, delivery-injective, delivers}
-use Rattle.job.proofs.Answers.{read-bad, read-good, read-bytes, write-good, write-bytes, never-ten}
+use Rattle.refusal.proofs.Delivery.{numbers-injective, delivery-injective, delivers-refusal, delivers-output}
+use Rattle.job.proofs.Refusals.{text-bad, text-good, packed-whole, write-within}
+use Rattle.job.proofs.Answers.{read-bytes, write-bytes, never-ten}
 
 -- Two lists of proper events with the same text are the same list.
 pub text-of-injective : (es fs : List Event) → proper es ≡ true → proper fs ≡ true → textOf es ≡ textOf fs → es ≡ fs
@@ -38,7 +39,8 @@ well-formed-spells t h = (good-proper t h, good-text t h)
 
 -- Within the limit, the reader gives 10 where the text is the text of no list of proper events.
 pub refused-if-none : (t out : List ℕ) → length t ≤ limit → ((es : List Event) → proper es ≡ true → textOf es ≡ t → ⊥) → readOf t out ≡ delivery (Refused (Line (firstBad t))) out
-refused-if-none t out h n = read-bad t out h (λ z. n (eventsOf t) (good-proper t z) (good-text t z))
+unfolding readOf
+refused-if-none t out h n = sym (delivers-refusal (textRefusals t) _ out _ (text-bad t h (λ z. n (eventsOf t) (good-proper t z) (good-text t z))))
 
 -- And only there: where the reader gives 10, whatever the line, no list of proper events has this text.
 pub refused-only-if-none : (t out : List ℕ) (k : ℕ) → readOf t out ≡ delivery (Refused (Line k)) out → (es : List Event) → proper es ≡ true → textOf es ≡ t → ⊥
@@ -51,27 +53,27 @@ first-malformed t i e = named-from-one (linesOf t) i e
 
 -- Reading what the writer wrote gives the packed list back, and its length.
 pub reading-what-was-written : (p out back : List ℕ) (n : ℕ) → allBytes p ≡ true → length p ≤ length back → writeOf p out .answer ≡ 0 ∷ n ∷ [] → readOf (take n (writeOf p out .buffer)) back ≡ delivery (Bytes (length p)) (put 0 p back)
+unfolding readOf
 reading-what-was-written p out back n y room e =
     let w = write-bytes p out n e in
     let q : proper (unpacked p) ≡ true = packs-proper p (w .0) y in
     let k : packedOf (unpacked p) ≡ p = packs-packed p (w .0) in
     let t : take n (writeOf p out .buffer) ≡ textOf (unpacked p) = ap₂ take (w .2) (w .3) ∙ take-put (textOf (unpacked p)) out in
     let r : packedOf (eventsOf (textOf (unpacked p))) ≡ p = ap packedOf (text-events (unpacked p) q) ∙ k in
-    ap (λ (x : List ℕ). readOf x back) t
-    ∙ read-good (textOf (unpacked p)) back (w .1) (text-clean (unpacked p) q)
-    ∙ delivers (packedOf (eventsOf (textOf (unpacked p)))) p back r room
+    let free = text-good (textOf (unpacked p)) (w .1) (text-clean (unpacked p) q) in
+    ap (λ (x : List ℕ). readOf x back) t ∙ ap (λ (l : List ℕ). delivered (textRefusals (textOf (unpacked p))) l back) r ∙ delivers-output _ p back free room
 
 -- Writing what the reader read gives the text back, and its length.
 pub writing-what-was-read : (t out back : List ℕ) (n : ℕ) → length t ≤ length back → readOf t out .answer ≡ 0 ∷ n ∷ [] → writeOf (take n (readOf t out .buffer)) back ≡ delivery (Bytes (length t)) (put 0 t back)
+unfolding writeOf
 writing-what-was-read t out back n room e =
     let w = read-bytes t out n e in
     let q : proper (eventsOf t) ≡ true = good-proper t (w .1) in
     let k : textOf (eventsOf t) ≡ t = good-text t (w .1) in
     let p : take n (readOf t out .buffer) ≡ packedOf (eventsOf t) = ap₂ take (w .2) (w .3) ∙ take-put (packedOf (eventsOf t)) out in
     let r : textOf (unpacked (packedOf (eventsOf t))) ≡ t = ap textOf (packed-events (eventsOf t) q) ∙ k in
-    ap (λ (x : List ℕ). writeOf x back) p
-    ∙ write-good (packedOf (eventsOf t)) back (packed-packs (eventsOf t) q) (rw r (w .0))
-    ∙ delivers (textOf (unpacked (packedOf (eventsOf t)))) t back r room
+    let free = write-within (packedOf (eventsOf t)) (packed-whole (packedOf (eventsOf t)) (packed-packs (eventsOf t) q)) (rw r (w .0)) in
+    ap (λ (x : List ℕ). writeOf x back) p ∙ ap (λ (l : List ℕ). delivered (writeRefusals (packedOf (eventsOf t))) l back) r ∙ delivers-output _ t back free room
 
 -- Any two outcomes that a promise of `measure`, of the reader or of the writer allows are equal.
 pub one-measure : (t : List ℕ) (r s : Done) → inNumbers r ≡ inNumbers (measureOf t) → inNumbers s ≡ inNumbers (measureOf t) → r ≡ s

@@ -7,7 +7,7 @@ use native.Mathlib.Omega.{arith}
 use native.Mathlib.Numerals.{add-one}
 use lib.ListN.{length, take, drop, getD, length-append, length-drop, drop-of-length-le}
 use lib.Seq.{drop-drop}
-use borrow.Author.Tests.{lt-leb, le-leb, lt-ltb, le-ltb, eq-eqb, ne-eqb}
+use borrow.Author.Tests.{lt-leb, le-leb, lt-ltb, le-ltb}
 use Rattle.laws.proofs.Bytes.{rest-is}
 use Rattle.laws.proofs.Split.{by-bool, by-eq, by-lt}
 use Rattle.request.specs.Setup.{setupOf}
@@ -22,6 +22,7 @@ use Rattle.job.specs.Calls.{measureOf, itemFor, itemOf}
 use Rattle.job.proofs.FirstLine.{first-some, lines-first}
 use Rattle.job.proofs.Formed.{Asks, asks, asks-event, asks-length, asks-setup, asks-whole, asks-digits}
 use Rattle.job.proofs.LineLength.{length-good, length-bad, Attaches, attaches}
+use Rattle.job.proofs.Refusals.{text-long, text-bad, text-good}
 
 -- a length that is not 0 is that of a well-formed line
 formed-if : (u : List ℕ) → (lineLength u ≡ 0 → ⊥) → wellSpelled (firstLine u) ≡ true
@@ -155,14 +156,14 @@ walk-end t at number size short h b s =
     let z : 0 ≡ firstBad t = rw d at b in
     let n : size + 0 ≡ length (packedOf (eventsIn (linesOf t))) = rw d at s in
     let k : size ≡ length (packedOf (eventsIn (linesOf t))) = omega arith in
-    rw (le-ltb limit (length t) short, eq-eqb (firstBad t) 0 (sym z)) (ap Bytes k)
+    rw (text-good t short (sym z)) (ap Bytes k)
 
 pub walk-bad : (t : List ℕ) (number : ℕ) → length t ≤ limit → 1 ≤ number → number ≡ firstBad t → Refused (Line number) ≡ measureOf t
 unfolding measureOf
 walk-bad t number short h e =
     let n : firstBad t ≡ 0 → ⊥ = λ z. omega arith in
-    rw (le-ltb limit (length t) short, ne-eqb (firstBad t) 0 n) (ap (λ (k : ℕ). Refused (Line k)) e)
+    rw (text-bad t short n) (ap (λ (k : ℕ). Refused (Line k)) e)
 
 pub measure-long : (t : List ℕ) → limit < length t → Refused Text ≡ measureOf t
 unfolding measureOf
-measure-long t h = rw (lt-ltb limit (length t) h)
+measure-long t h = rw (text-long t h)

@@ -8,6 +8,7 @@ use lib.Dec.{ltb}
 use lib.ListN.{length, getD}
 use borrow.Author.Tests.{lt-ltb, le-ltb}
 use Rattle.laws.specs.Bytes.{put}
+use Rattle.laws.proofs.Split.{by-lt}
 use Rattle.refusal.specs.declared.Refusal.{Refusal}
 use Rattle.refusal.specs.declared.Refusal.the-variants.{Output}
 use Rattle.refusal.specs.declared.Admission.{Admission}
@@ -18,7 +19,7 @@ use Rattle.refusal.specs.Refusal.{numberOf}
 use Rattle.refusal.specs.Order.{firstOf}
 use Rattle.refusal.specs.Delivery.{inNumbers, Delivery, delivery, counted, answered, withOutput, delivered}
 use Rattle.refusal.proofs.Numbers.{refusal-injective, number-some}
-use Rattle.refusal.proofs.Order.{first-here, first-on, first-none, then, then-parts, first-append}
+use Rattle.refusal.proofs.Order.{refused-not, first-here, first-on, first-none, then, then-parts, first-append}
 
 -- the two numbers of an answer
 unfoldable pub first : List ℕ → ℕ
@@ -88,7 +89,21 @@ module _ (rs : List (Refusal × Bool)) (xs out : List ℕ) where
       let b = answered-bytes (firstOf (withOutput rs xs out)) xs out n e in
       (then-parts (firstOf rs) (firstOf short) (sym (first-append rs short) ∙ b .0) .0, b .1, b .2)
 
-  -- a refusal is one of these, or row 11
+  -- a refusal is the first of these and of row 11
   pub delivered-refusal : (r : Refusal) (y : List ℕ) → delivered rs xs out ≡ delivery (Refused r) y → firstOf (withOutput rs xs out) ≡ admission.Refused r
   unfolding delivered
   delivered-refusal r y e = answered-refused (firstOf (withOutput rs xs out)) xs out y r e
+
+  eleven-alone : (r : Refusal) → firstOf short ≡ admission.Refused r → Output ≡ r
+  eleven-alone r e =
+      by-lt (length out) (length xs)
+      (λ h. let is : admission.Refused Output ≡ admission.Refused r = sym (first-here Output _ [] (lt-ltb (length out) (length xs) h)) ∙ e in cc)
+      (λ h. refused-not r (sym e ∙ first-on Output _ [] (le-ltb (length out) (length xs) h) ∙ first-none))
+
+  -- one that is not 11 is the first of these alone
+  pub delivered-own : (r : Refusal) (y : List ℕ) → (Output ≡ r → ⊥) → delivered rs xs out ≡ delivery (Refused r) y → firstOf rs ≡ admission.Refused r
+  delivered-own r y other e = go (firstOf rs) (sym (first-append rs short) ∙ delivered-refusal r y e)
+    where
+      go : (a : Admission) → then a (firstOf short) ≡ admission.Refused r → a ≡ admission.Refused r
+      go admission.Admitted h = absurd (other (eleven-alone r h))
+      go (admission.Refused s) h = h
