@@ -13,7 +13,11 @@ use Rattle.refusal.specs.declared.Admission.the-variants.{Admitted, Refu
 use Rattle.refusal.specs.Refusal.{numberOf}
 use Rattle.refusal.specs.Order.{firstOf, rows, met, before, beforeAll, inOrder}
 
--- a call is taken or refused
+-- a call is taken or refused, and not both
+pub by-admission : {C : Type 0} (a : Admission) → (a ≡ Admitted → C) → ((r : Refusal) → a ≡ Refused r → C) → C
+by-admission Admitted t f = t refl
+by-admission (Refused r) t f = f r refl
+
 pub refused-not : {C : Type 0} (r : Refusal) → Refused r ≡ Admitted → C
 refused-not r e = let z : _≡_ {A = ℕ} 0 1 = cc in absurd (omega arith)
 

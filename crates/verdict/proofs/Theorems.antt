@@ -1,7 +1,7 @@
 -- One verdict for one job, and what a pass means. Assumes nothing.
 use mathlib.Core.Path.{_≡_, refl, ap, _∙_, sym}
 use mathlib.Core.Bool.{Bool, false, false≢true}
-use mathlib.Core.List.{List}
+use mathlib.Core.List.{List, []}
 use Prim.Native.Nat.{ℕ, suc, _≤_, _<_}
 use native.Mathlib.Omega.{arith}
 use lib.ListN.{length, getD}
@@ -15,16 +15,18 @@ use Rattle.refusal.specs.declared.Done.{Done}
 use Rattle.job.specs.Event.{Event}
 use Rattle.job.specs.Text.{eventsOf}
 use Rattle.refusal.specs.Delivery.{delivery, delivered}
+use Rattle.refusal.proofs.Order.{by-admission}
 use Rattle.refusal.proofs.Delivery.{delivery-injective}
 use Rattle.laws.proofs.Lists.{same-refl, same-eq}
 use Rattle.verdict.specs.declared.Verdict.{Verdict}
 use Rattle.verdict.specs.declared.Verdict.the-variants as verdict
 use Rattle.verdict.specs.World.{World, Fresh, after, failsAt}
 use Rattle.verdict.specs.Verdict.{endFails, endFault, pagesEnd, wantedAt, wrongAt, OnSome, OnNone, Least, Judged}
-use Rattle.verdict.specs.Checked.{checkable, Ruled, Checked}
-use Rattle.verdict.specs.Report.{reportLine}
+use Rattle.verdict.specs.Checked.{checkable, Checked}
+use Rattle.verdict.specs.Report.{inFields, reportLine}
 use Rattle.verdict.specs.Demand.{Works, AllWork}
 use Rattle.verdict.proofs.Supply.{checkable-parts}
+use Rattle.verdict.proofs.Reading.{fields-injective}
 
 -- no board shows a fault, and one does
 contrary : {C : Type 0} (n : ℕ) (card : List ℕ) (fault : World → Bool) → OnNone n card fault → OnSome n card fault → C
@@ -124,29 +126,42 @@ module _ (n : ℕ) (es : List Event) (image card : List ℕ) where
     λ all. (λ k w fresh. all w fresh .clean k, λ c w fresh. no-end w (all w fresh) c, λ f r w fresh. no-wrong w (all w fresh) f r),
   )
 
+-- What the promise of `check` says of an answer v, and of the work area x that it leaves.
+module _ (n : ℕ) (t image card w : List ℕ) where
+  abbrev answer : Admission
+  answer = checkable n t (length image) (length card) (length w)
+
+  -- where nothing is refused, v is the verdict of the text's events
+  pub checked-verdict : (v : Verdict) (x : List ℕ) → answer ≡ admission.Admitted → Checked n t image card w (inFields v) x → Judged n (eventsOf t) image card v
+  checked-verdict v x e c =
+      let p : (u : Verdict) × (inFields v ≡ inFields u) × Judged n (eventsOf t) image card u = rw e at c in
+      rw (fields-injective v (p .0) (p .1)) (p .2)
+
+  -- otherwise it is the first refusal, and the work area is as it was
+  pub checked-refusal : (v : Verdict) (x : List ℕ) (r : Refusal) → answer ≡ admission.Refused r → Checked n t image card w (inFields v) x → (v ≡ verdict.Refused r) × (x ≡ w)
+  checked-refusal v x r e c =
+      let p : (inFields v ≡ inFields (verdict.Refused r)) × (x ≡ w) = rw e at c in
+      (fields-injective v (verdict.Refused r) (p .0), p .1)
+
 -- Any two answers that the promise of `check` allows are equal.
-pub one-answer : (n : ℕ) (t image card w : List ℕ) (v u : Verdict) (x y : List ℕ) → Checked n t image card w v x → Checked n t image card w u y → v ≡ u
-one-answer n t image card w v u x y a b = go (checkable n t (length image) (length card) (length w)) a b
-  where
-    go : (m : Admission) → Ruled m n t image card w v x → Ruled m n t image card w u y → v ≡ u
-    go admission.Admitted p q = one-verdict n (eventsOf t) image card v u p q
-    go (admission.Refused r) p q = p .0 ∙ sym (q .0)
+pub one-answer : (n : ℕ) (t image card w : List ℕ) (v u : Verdict) (x y : List ℕ) → Checked n t image card w (inFields v) x → Checked n t image card w (inFields u) y → v ≡ u
+one-answer n t image card w v u x y a b =
+    by-admission (checkable n t (length image) (length card) (length w))
+    (λ e. one-verdict n (eventsOf t) image card v u (checked-verdict n t image card w v x e a) (checked-verdict n t image card w u y e b))
+    (λ r e. checked-refusal n t image card w v x r e a .0 ∙ sym (checked-refusal n t image card w u y r e b .0))
 
 -- After a refusal so are the work areas.
-pub one-area : (n : ℕ) (t image card w : List ℕ) (v u : Verdict) (x y : List ℕ) (r : Refusal) → checkable n t (length image) (length card) (length w) ≡ admission.Refused r → Checked n t image card w v x → Checked n t image card w u y → x ≡ y
-one-area n t image card w v u x y r e a b =
-    let p : (v ≡ verdict.Refused r) × (x ≡ w) = rw e at a in
-    let q : (u ≡ verdict.Refused r) × (y ≡ w) = rw e at b in
-    p .1 ∙ sym (q .1)
+pub one-area : (n : ℕ) (t image card w : List ℕ) (v u : Verdict) (x y : List ℕ) (r : Refusal) → checkable n t (length image) (length card) (length w) ≡ admission.Refused r → Checked n t image card w (inFields v) x → Checked n t image card w (inFields u) y → x ≡ y
+one-area n t image card w v u x y r e a b = checked-refusal n t image card w v x r e a .1 ∙ sym (checked-refusal n t image card w u y r e b .1)
 
 -- Any two outcomes, answer and buffer, that the promise of `report` allows are equal.
-pub one-report : (v : Verdict) (out x y : List ℕ) (r s : Done) → delivery r x ≡ delivered (reportLine v) out → delivery s y ≡ delivered (reportLine v) out → (r ≡ s) × (x ≡ y)
+pub one-report : (v : Verdict) (out x y : List ℕ) (r s : Done) → delivery r x ≡ delivered [] (reportLine v) out → delivery s y ≡ delivered [] (reportLine v) out → (r ≡ s) × (x ≡ y)
 one-report v out x y r s a b = delivery-injective r s x y (a ∙ sym b)
 
--- The third demand: where `check` does not refuse, it answers Pass exactly when every board works.
-pub demand-three : (n : ℕ) (t image card w : List ℕ) (v : Verdict) (x : List ℕ) → checkable n t (length image) (length card) (length w) ≡ admission.Admitted → Checked n t image card w v x → (v ≡ verdict.Pass → AllWork n (eventsOf t) image card) × (AllWork n (eventsOf t) image card → v ≡ verdict.Pass)
+-- The third demand: where `check` does not refuse, it answers Pass, `ACCEPT 0 0`, exactly when every board works.
+pub demand-three : (n : ℕ) (t image card w : List ℕ) (v : Verdict) (x : List ℕ) → checkable n t (length image) (length card) (length w) ≡ admission.Admitted → Checked n t image card w (inFields v) x → (v ≡ verdict.Pass → AllWork n (eventsOf t) image card) × (AllWork n (eventsOf t) image card → v ≡ verdict.Pass)
 demand-three n t image card w v x e c =
-    let j : Judged n (eventsOf t) image card v = rw e at c in
+    let j = checked-verdict n t image card w v x e c in
     let exactly = pass-exactly n (eventsOf t) image card (checkable-parts n t (length image) (length card) (length w) e .supply .most) in (
       λ is. exactly .0 (rw is at j),
       λ all. one-verdict n (eventsOf t) image card v verdict.Pass j (exactly .1 all),

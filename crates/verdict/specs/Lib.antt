@@ -1,5 +1,5 @@
 pub mod World
 pub mod Verdict
+pub mod Report
 pub mod Checked
 pub mod Demand
-pub mod Report

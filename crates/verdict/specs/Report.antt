@@ -1,37 +1,29 @@
 -- The line that says a verdict. Document 01, "Bench cases", program `check`. Assumes nothing.
-use mathlib.Core.Bool.{cond}
 use mathlib.Core.List.{List, [], _∷_, _++_}
-use Prim.Native.Nat.{ℕ, zero, suc, _+_, _/_, _%_}
-use lib.Dec.{ltb}
+use Prim.Native.Nat.{ℕ}
 use Rattle.laws.specs.Ascii.{ascii}
 use Rattle.refusal.specs.Refusal as refusal
 use Rattle.verdict.specs.declared.Verdict.{Verdict}
 use Rattle.verdict.specs.declared.Verdict.the-variants as verdict
 use Rattle.decimal.specs.Decimal.{decimalOf}
 
--- "word": `ACCEPT` for Pass, `REFUSE` for a refusal, else `REJECT`
-abbrev pub wordField : Verdict → List ℕ
-wordField verdict.Pass = ascii "ACCEPT"
-wordField (verdict.Event k) = ascii "REJECT"
-wordField (verdict.End c) = ascii "REJECT"
-wordField (verdict.Flash f) = ascii "REJECT"
-wordField (verdict.Refused r) = ascii "REFUSE"
+-- "three .. fields: word, kind, number"
+pub record Fields : Type 0 where
+  pub word : List ℕ
+  pub kind : ℕ
+  pub number : ℕ
 
--- "kind": 0; 1, 2, 3; a refusal's number
-abbrev pub kindField : Verdict → ℕ
-kindField verdict.Pass = 0
-kindField (verdict.Event k) = 1
-kindField (verdict.End c) = 2
-kindField (verdict.Flash f) = 3
-kindField (verdict.Refused r) = refusal.numberOf r
+-- the three, one behind the other
+abbrev pub fields : List ℕ → ℕ → ℕ → Fields
+fields word kind number = record { word = word; kind = kind; number = number }
 
--- "number": 0; k, c, f; a refusal's line, "line 0 where the refusal names none"
-abbrev pub numberField : Verdict → ℕ
-numberField verdict.Pass = 0
-numberField (verdict.Event k) = k
-numberField (verdict.End c) = c
-numberField (verdict.Flash f) = f
-numberField (verdict.Refused r) = refusal.lineNamed r
+-- "Pass: `ACCEPT 0 0`; Event: `REJECT 1 k`; End: `REJECT 2 c`; Flash: `REJECT 3 f`; refusal: `REFUSE number line`, line 0 where the refusal names none"
+abbrev pub inFields : Verdict → Fields
+inFields verdict.Pass = fields (ascii "ACCEPT") 0 0
+inFields (verdict.Event k) = fields (ascii "REJECT") 1 k
+inFields (verdict.End c) = fields (ascii "REJECT") 2 c
+inFields (verdict.Flash f) = fields (ascii "REJECT") 3 f
+inFields (verdict.Refused r) = fields (ascii "REFUSE") (refusal.numberOf r) (refusal.lineNamed r)
 
 -- "tab-parted"
 abbrev pub tab : List ℕ
@@ -41,6 +33,6 @@ tab = 9 ∷ []
 abbrev pub lineFeed : List ℕ
 lineFeed = 10 ∷ []
 
--- "one line of three tab-parted fields: word, kind, number"
+-- "one line of three tab-parted fields"
 unfoldable pub reportLine : Verdict → List ℕ
-reportLine v = wordField v ++ tab ++ decimalOf (kindField v) ++ tab ++ decimalOf (numberField v) ++ lineFeed
+reportLine v = inFields v .word ++ tab ++ decimalOf (inFields v .kind) ++ tab ++ decimalOf (inFields v .number) ++ lineFeed

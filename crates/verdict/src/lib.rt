@@ -1,16 +1,11 @@
 // What is to be said of a job, and the line that says it.
 ghost use mathlib.Core.Path.{_≡_};
-ghost use mathlib.Core.List.{[], _∷_, _++_};
-ghost use Prim.Native.Nat.{_+_, _%_, _≤_, _<_};
+ghost use mathlib.Core.List.{[], _++_};
+ghost use Prim.Native.Nat.{_≤_};
 ghost use lib.ListN.{length};
 ghost use Rattle.laws.specs.Bytes.{put};
 ghost use Rattle.refusal.specs.Delivery.{delivery, delivered};
-ghost use Rattle.board.specs.Supply.{supplied};
-ghost use Rattle.board.specs.Layout.{pagesOf};
-ghost use Rattle.decimal.specs.Decimal.{decimalOf};
-ghost use Rattle.verdict.specs.Report.{wordField, kindField, numberField, tab, reportLine};
-use board::Board;
-use refusal::Admission;
+ghost use Rattle.verdict.specs.Report.{inFields, tab, reportLine};
 use refusal::Done;
 use refusal::Refusal;
 
@@ -32,7 +27,7 @@ const PLAIN: usize = 9;
 
 // The line's word, and the tab behind it.
 fn word(verdict: Verdict) -> [u8; WORD]
-    ensures { λ r. ⌜ r ≡ wordField verdict ++ tab ⌝ }
+    ensures { λ r. ⌜ r ≡ inFields verdict .word ++ tab ⌝ }
 {
     match verdict {
         Verdict::Pass => *b"ACCEPT\t",
@@ -44,7 +39,7 @@ fn word(verdict: Verdict) -> [u8; WORD]
 }
 
 fn kind(verdict: Verdict) -> usize
-    ensures { λ r. ⌜ r ≡ kindField verdict ⌝ }
+    ensures { λ r. ⌜ r ≡ inFields verdict .kind ⌝ }
 {
     match verdict {
         Verdict::Pass => 0,
@@ -56,7 +51,7 @@ fn kind(verdict: Verdict) -> usize
 }
 
 fn number(verdict: Verdict) -> usize
-    ensures { λ r. ⌜ r ≡ numberField verdict ⌝ }
+    ensures { λ r. ⌜ r ≡ inFields verdict .number ⌝ }
 {
     match verdict {
         Verdict::Pass => 0,
@@ -79,7 +74,7 @@ fn write_line(verdict: Verdict, out: &mut [u8]) -> usize
 
 // Writes the line that says the verdict to the front of `out`.
 pub fn report(verdict: Verdict, out: &mut [u8]) -> Done
-    ensures { λ r. ⌜ delivery r (now (out .exit)) ≡ delivered (reportLine verdict) (now (out .entry)) ⌝ }
+    ensures { λ r. ⌜ delivery r (now (out .exit)) ≡ delivered [] (reportLine verdict) (now (out .entry)) ⌝ }
 {
     if out.len() < PLAIN + decimal::digits(kind(verdict)) + decimal::digits(number(verdict)) {
         return Done::Refused(Refusal::Output);

@@ -2,7 +2,7 @@
 use mathlib.Core.Path.{ap, sym}
 use mathlib.Core.List.{_++_}
 use Rattle.verdict.specs.declared.Verdict.{Verdict}
-use Rattle.verdict.specs.Report.{wordField, tab}
+use Rattle.verdict.specs.Report.{inFields, tab}
 use borrow.Author.Needs.{needs}
 use Rattle.verdict.proofs.word.Statement.{statement}
 use Rattle.verdict.proofs.word.Tie as tie
@@ -23,19 +23,19 @@ enum-told-5 : tie.Need-enum-told-5
 enum-told-5 c = search needs
 
 returns : tie.Need-returns
-returns c = ap (λ (v : Verdict). wordField v ++ tab) (sym (c .before .before .enum-told .given .1))
+returns c = ap (λ (v : Verdict). inFields v .word ++ tab) (sym (c .before .before .enum-told .given .1))
 
 returns-2 : tie.Need-returns-2
-returns-2 c = ap (λ (v : Verdict). wordField v ++ tab) (sym (c .before .before .enum-told2 .given .1))
+returns-2 c = ap (λ (v : Verdict). inFields v .word ++ tab) (sym (c .before .before .enum-told2 .given .1))
 
 returns-3 : tie.Need-returns-3
-returns-3 c = ap (λ (v : Verdict). wordField v ++ tab) (sym (c .before .before .enum-told3 .given .1))
+returns-3 c = ap (λ (v : Verdict). inFields v .word ++ tab) (sym (c .before .before .enum-told3 .given .1))
 
 returns-4 : tie.Need-returns-4
-returns-4 c = ap (λ (v : Verdict). wordField v ++ tab) (sym (c .before .before .enum-told4 .given .1))
+returns-4 c = ap (λ (v : Verdict). inFields v .word ++ tab) (sym (c .before .before .enum-told4 .given .1))
 
 returns-5 : tie.Need-returns-5
-returns-5 c = ap (λ (v : Verdict). wordField v ++ tab) (sym (c .before .before .enum-told5 .given .1))
+returns-5 c = ap (λ (v : Verdict). inFields v .word ++ tab) (sym (c .before .before .enum-told5 .given .1))
 
 pub word-spec : {M : Type 1} → statement M
 word-spec =

@@ -1,7 +1,7 @@
 -- `verdict::write_line` meets its contract. Assumes nothing.
 use mathlib.Core.Path.{refl}
 use native.Mathlib.Omega.{arith}
-use Rattle.verdict.specs.Report.{numberField}
+use Rattle.verdict.specs.Report.{inFields}
 use Rattle.verdict.proofs.Line.{word-fits, line-length, line-written}
 use borrow.Author.Needs.{needs}
 use Rattle.verdict.proofs.write_line.Statement.{statement}
@@ -23,7 +23,7 @@ write-field-requires : tie.Need-write-field-requires
 write-field-requires c κs =
     let p = c .before .before .before .before in
     let v = p .before .before .before .before .before .args .verdict in
-    let e = line-length v _ (numberField v) (c .before .kind .ensures) refl in
+    let e = line-length v _ (inFields v .number) (c .before .kind .ensures) refl in
     let m = p .put .kept in
     omega arith
 
