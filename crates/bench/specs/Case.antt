@@ -20,6 +20,7 @@ use Rattle.loader.specs.declared.Event.the-variants as event
 use Rattle.loader.specs.Answer.{Outcome}
 use Rattle.loader.specs.Serve.{runOf, statusOf, serveOf}
 use Rattle.loader.specs.Step.{admittedOf, stepOf}
+use Rattle.refusal.specs.Order.{firstOf}
 use Rattle.job.specs.Event.{Event}
 use Rattle.verdict.specs.declared.Verdict.{Verdict}
 use Rattle.verdict.specs.Verdict.{endFails}
@@ -53,7 +54,7 @@ stateOf o = state (o .answer ++ take (getD (o .answer) 1 0) (o .reply)) (o .devi
 
 -- what a deed comes to: by the promises' own definitions, and by `verdictOf`, which the law `judged` ties to the promised verdict
 unfoldable pub found : Deed → Finding
-unfolding put filled spans placeOf lockedFrom wordFrom readProtected wordOf writeProtected outwardOf inwardOf requestOf setupOf dataLength fitsOf allowedOf afterStatus reportOf inRegion wellFormed commandOf commandedOf downloadOf decideOf blockAddress accessOf blockAccess actionOf each blank laid stored erased runOf statusOf serveOf admittedOf stepOf overOf endFails lowestFrom endNumber endVerdict verdictOf
+unfolding put filled spans placeOf lockedFrom wordFrom readProtected wordOf writeProtected outwardOf inwardOf requestOf setupOf dataLength fitsOf allowedOf afterStatus reportOf inRegion wellFormed commandOf commandedOf downloadOf decideOf blockAddress accessOf blockAccess actionOf each blank laid stored erased runOf statusOf serveOf firstOf admittedOf stepOf overOf endFails lowestFrom endNumber endVerdict verdictOf
 found (locate value count pointer) = address (blockAddress value count pointer)
 found (ask qs m) = stateOf (asked qs (attached m))
 found (check es image card) = judgement (verdictOf loggerPages es image card (replicate (workBytes loggerPages) 0))

@@ -8,7 +8,6 @@ use native.Mathlib.Omega.{arith}
 use native.Mathlib.Nat.{min-le-right}
 use lib.Dec.{T, eqb}
 use lib.ListN.{length, take, drop, getD, length-take, length-drop}
-use borrow.Author.Tests.{eq-eqb}
 use Rattle.laws.specs.Bytes.{put}
 use Rattle.laws.proofs.Append.{take-put, part-put}
 use Rattle.laws.proofs.Bytes.{put-length, take-at-most}
@@ -39,7 +38,8 @@ use Rattle.loader.specs.declared.Event.the-variants as event
 use Rattle.loader.specs.declared.Answer.the-variants.{Accepted}
 use Rattle.loader.specs.Answer.{Outcome, outcome}
 use Rattle.loader.specs.Serve.{InOrder, runOf, statusBytes, statusOf, readAt, uploadedOf, commandCodes, actedOf, serveOf}
-use Rattle.loader.specs.Step.{admittedOf, stepOf}
+use Rattle.loader.specs.Step.{sizesOf, stepOf}
+use Rattle.loader.proofs.Admitted.{step-attaches, step-serves, admit-all, in-order-admitted}
 use Rattle.job.specs.Event.{Event, attach, request}
 use Rattle.verdict.specs.World.{World, worldOf, steppedOf, fails, asksStatus, isGetStatus}
 use Rattle.cells.specs.Cells.{known, blockFrom, blockOf, falls, goes, readMoves, readsMoves, statusMoves, decisionMoves, requestMoves, moves}
@@ -263,14 +263,10 @@ Fitting (request q) = fitsOf q ≡ true
 
 -- a call that no refusal stops is served
 in-order-serves : (n : ℕ) (d : Device) (q m b y : List ℕ) → InOrder n d q m b y → stepOf n d event.Request q m b y ≡ serveOf n d q m b y
-unfolding stepOf admittedOf
-in-order-serves n d q m b y i =
-    rw (eq-eqb (length m) (memoryBytes n) (i .memory), eq-eqb (length b) transferBytes (i .block), eq-eqb (length y) transferBytes (i .reply), i .device, i .request)
+in-order-serves n d q m b y i = sym (step-serves n d event.Request q m b y _ refl (in-order-admitted n d q m b y i) refl)
 
 attach-starts : (n : ℕ) (d : Device) (q m b y : List ℕ) → length m ≡ memoryBytes n → length b ≡ transferBytes → length y ≡ transferBytes → wellFormed n d ≡ true → stepOf n d event.Attach q m b y ≡ outcome Accepted started m b y
-unfolding stepOf admittedOf
-attach-starts n d q m b y lm lb ly f =
-    rw (eq-eqb (length m) (memoryBytes n) lm, eq-eqb (length b) transferBytes lb, eq-eqb (length y) transferBytes ly, f)
+attach-starts n d q m b y lm lb ly f = sym (step-attaches n d event.Attach q m b y _ refl (admit-all n d event.Attach q (sizesOf m b y) lm lb ly f refl) refl)
 
 module _ (n : ℕ) (m₀ : List ℕ) (d : Device) (m b y w : List ℕ) (form : Form n d) (st : Stands n m₀ (record { device = d; memory = m; block = b; reply = y }) d w) where
   abbrev here : World

@@ -1,4 +1,4 @@
--- The refusals of a check and of a report stand in document 01's order. Assumes nothing.
+-- The refusals of a check stand in document 01's order. Assumes nothing.
 use mathlib.Core.Path.{_≡_, refl}
 use mathlib.Core.Bool.{true}
 use mathlib.Core.List.{List}
