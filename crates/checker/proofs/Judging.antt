@@ -4,27 +4,24 @@ use mathlib.Core.Bool.{true}
 use mathlib.Core.List.{List, [], _∷_}
 use Prim.Native.Nat.{ℕ, _≤_}
 use lib.ListN.{length}
-use borrow.Author.Tests.{eq-eqb, ne-eqb}
 use Rattle.refusal.specs.declared.Refusal.{Refusal}
-use Rattle.refusal.specs.declared.Refusal.the-variants as refusal
 use Rattle.device.specs.declared.Device.{Device}
 use Rattle.device.specs.State.{started}
 use Rattle.refusal.specs.declared.Admission.{Admission}
 use Rattle.refusal.specs.declared.Admission.the-variants as admission
-use Rattle.refusal.specs.declared.Done.{Done}
-use Rattle.refusal.specs.declared.Done.the-variants.{Bytes, Refused}
+use Rattle.refusal.specs.Order.{firstOf}
+use Rattle.refusal.proofs.Order.{then}
 use Rattle.laws.specs.Lists.{allBytes}
 use Rattle.job.specs.Event.{Event, attach, request, fits, proper}
 use Rattle.job.specs.Text.{eventsOf}
-use Rattle.refusal.specs.Delivery.{inNumbers}
-use Rattle.job.specs.Calls.{measureOf}
-use Rattle.refusal.proofs.Delivery.{numbers-injective}
+use Rattle.job.specs.Calls.{textRefusals}
 use Rattle.job.proofs.EventText.{proper-parts, good-proper}
 use Rattle.verdict.specs.declared.Verdict.{Verdict}
 use Rattle.verdict.specs.declared.Verdict.the-variants as verdict
 use Rattle.board.specs.Supply.{supplied}
-use Rattle.verdict.specs.Checked.{workBytes, readable, then, checkable, Checked}
-use Rattle.verdict.proofs.Supply.{Checkable, checkable-parts}
+use Rattle.verdict.specs.Report.{inFields}
+use Rattle.verdict.specs.Checked.{workBytes, checkable, Checked}
+use Rattle.verdict.proofs.Supply.{Checkable, checkable-then, checkable-parts}
 use Rattle.cells.specs.Cells.{overOf, endVerdict, overVerdict, begun, verdictOf}
 use Rattle.cells.proofs.Events.{Fitting}
 use Rattle.cells.proofs.Runs.{AllFit}
@@ -46,30 +43,16 @@ module _ (n : ℕ) (es : List Event) (image card w w₁ w₂ : List ℕ) (r : Ou
   unfolding verdictOf
   judged-ended d v is so = so ∙ sym (ap (overVerdict n image card) (over-is ∙ ap (λ (x : Outcome). overAs x w₂) is))
 
--- what the reader's answer r comes to
-module _ (t : List ℕ) (r : Done) (is : inNumbers r ≡ inNumbers (measureOf t)) where
-  pub readable-bytes : (size : ℕ) → r ≡ Bytes size → admission.Admitted ≡ readable (measureOf t)
-  readable-bytes size so = ap readable (sym so ∙ numbers-injective r (measureOf t) is)
+-- the refusals in their order: s is what image and card come to
+module _ (n : ℕ) (t : List ℕ) (image card work : ℕ) (size : work ≡ workBytes n) (s : Admission) (is : s ≡ supplied n image card) where
+  by-supply : (a : Admission) → s ≡ a → checkable n t image card work ≡ then a (firstOf (textRefusals t))
+  by-supply a so = checkable-then n t image card work size ∙ ap (λ (x : Admission). then x (firstOf (textRefusals t))) (sym is ∙ so)
 
-  pub readable-refused : (why : Refusal) → r ≡ Refused why → admission.Refused why ≡ readable (measureOf t)
-  readable-refused why so = ap readable (sym so ∙ numbers-injective r (measureOf t) is)
+  pub checkable-refused : (why : Refusal) → s ≡ admission.Refused why → admission.Refused why ≡ checkable n t image card work
+  checkable-refused why so = sym (by-supply (admission.Refused why) so)
 
--- the refusals in their order
-module _ (n : ℕ) (t : List ℕ) (image card work : ℕ) where
-  pub checkable-work : (work ≡ workBytes n → ⊥) → admission.Refused refusal.Work ≡ checkable n t image card work
-  unfolding checkable
-  checkable-work odd = rw (ne-eqb work (workBytes n) odd)
-
-  module _ (size : work ≡ workBytes n) (s : Admission) (is : s ≡ supplied n image card) where
-    checkable-then : checkable n t image card work ≡ then s (readable (measureOf t))
-    unfolding checkable
-    checkable-then = rw (eq-eqb work (workBytes n) size, is)
-
-    pub checkable-refused : (why : Refusal) → s ≡ admission.Refused why → admission.Refused why ≡ checkable n t image card work
-    checkable-refused why so = sym (checkable-then ∙ ap (λ (x : Admission). then x (readable (measureOf t))) so)
-
-    pub checkable-readable : (a : Admission) → s ≡ admission.Admitted → a ≡ readable (measureOf t) → a ≡ checkable n t image card work
-    checkable-readable a so r = r ∙ sym (checkable-then ∙ ap (λ (x : Admission). then x (readable (measureOf t))) so)
+  pub checkable-readable : (a : Admission) → s ≡ admission.Admitted → a ≡ firstOf (textRefusals t) → a ≡ checkable n t image card work
+  checkable-readable a so r = r ∙ sym (by-supply admission.Admitted so)
 
 event-fits : (e : Event) → fits e ≡ true → Fitting e
 unfolding fits
@@ -82,13 +65,13 @@ proper-fits (e ∷ es) h = let p = proper-parts e es h in (event-fits e (p .0), 
 
 -- what an admission a of the call comes to
 module _ (n : ℕ) (t image card w : List ℕ) (a : Admission) (is : a ≡ checkable n t (length image) (length card) (length w)) where
-  pub checked-refused : (why : Refusal) (w′ : List ℕ) → a ≡ admission.Refused why → w′ ≡ w → Checked n t image card w (verdict.Refused why) w′
+  pub checked-refused : (why : Refusal) (w′ : List ℕ) → a ≡ admission.Refused why → w′ ≡ w → Checked n t image card w (inFields (verdict.Refused why)) w′
   checked-refused why w′ so kept = rw (sym is ∙ so) (refl, kept)
 
   pub checked-parts : a ≡ admission.Admitted → Checkable n t (length image) (length card) (length w)
   checked-parts so = checkable-parts n t (length image) (length card) (length w) (sym is ∙ so)
 
-  pub checked-judged : (v : Verdict) (w′ : List ℕ) → a ≡ admission.Admitted → 1 ≤ n → allBytes card ≡ true → v ≡ verdictOf n (eventsOf t) image card w → Checked n t image card w v w′
+  pub checked-judged : (v : Verdict) (w′ : List ℕ) → a ≡ admission.Admitted → 1 ≤ n → allBytes card ≡ true → v ≡ verdictOf n (eventsOf t) image card w → Checked n t image card w (inFields v) w′
   checked-judged v w′ so some bytes j =
       let c = checked-parts so in
-      rw (sym is ∙ so, j) (judged n (eventsOf t) image card w some (c .area) (c .supply .options) bytes (proper-fits (eventsOf t) (good-proper t (c .clean))))
+      rw (sym is ∙ so) (v, refl, rw j (judged n (eventsOf t) image card w some (c .area) (c .supply .options) bytes (proper-fits (eventsOf t) (good-proper t (c .clean)))))

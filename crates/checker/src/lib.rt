@@ -4,15 +4,17 @@ ghost use mathlib.Core.Bool.{true, false, not, _&&_};
 ghost use lib.Dec.{eqb};
 ghost use Prim.Native.Nat.{_+_, _-_, _*_, _≤_, _<_};
 ghost use lib.ListN.{length};
+ghost use Rattle.refusal.specs.Order.{firstOf};
 ghost use Rattle.board.specs.Layout.{loggerPages, flashBytes, optionBytes};
 ghost use Rattle.device.specs.State.{started};
 ghost use Rattle.device.specs.WellFormed.{wellFormed};
 ghost use Rattle.laws.specs.Lists.{same};
 ghost use Rattle.job.specs.Text.{eventsOf};
-ghost use Rattle.job.specs.Calls.{measureOf};
+ghost use Rattle.job.specs.Calls.{textRefusals};
 ghost use Rattle.verdict.specs.Verdict.{isLeft};
 ghost use Rattle.checker.specs.Walk.{Ahead, Advanced, overAs};
-ghost use Rattle.verdict.specs.Checked.{workBytes, readable, checkable, Checked};
+ghost use Rattle.verdict.specs.Report.{inFields};
+ghost use Rattle.verdict.specs.Checked.{workBytes, checkable, Checked};
 ghost use Rattle.cells.specs.Cells.{overOf, suspect, lowestFrom, endNumber, endVerdict, verdictOf};
 use board::Board;
 use device::Device;
@@ -249,7 +251,7 @@ fn admit(board: Board, job: &[u8], image: usize, card: usize, work: usize) -> Ad
 }
 
 fn readable(job: &[u8]) -> Admission
-    ensures { λ r. ⌜ r ≡ readable (measureOf (now (job .entry))) ⌝ }
+    ensures { λ r. ⌜ r ≡ firstOf (textRefusals (now (job .entry))) ⌝ }
 {
     let measured = job::measure(job);
     match measured {
@@ -260,7 +262,7 @@ fn readable(job: &[u8]) -> Admission
 
 // Checks a job: does every board with this card, whatever its flash and RAM hold, end up with the image?
 pub fn check(job: &[u8], image: &[u8], card: &[u8], work: &mut [u8]) -> Verdict
-    ensures { λ r. ⌜ Checked loggerPages (now (job .entry)) (now (image .entry)) (now (card .entry)) (now (work .entry)) r (now (work .exit)) ⌝ }
+    ensures { λ r. ⌜ Checked loggerPages (now (job .entry)) (now (image .entry)) (now (card .entry)) (now (work .entry)) (inFields r) (now (work .exit)) ⌝ }
 {
     let board = Board::LOGGER;
     let admission = admit(board, job, image.len(), card.len(), work.len());

@@ -1,27 +1,48 @@
--- What an admitted call of the plan writer was supplied with. Assumes nothing.
-use mathlib.Core.Path.{_≡_}
-use mathlib.Core.Bool.{false, cond}
-use mathlib.Core.List.{List}
+-- What the plan writer's own rows come to, and what an admitted call was supplied with. Assumes nothing.
+use mathlib.Core.Path.{_≡_, ap, _∙_, sym}
+use mathlib.Core.Bool.{true, false}
+use mathlib.Core.List.{List, [], _∷_}
 use Prim.Native.Nat.{ℕ}
 use lib.ListN.{length}
-use Rattle.laws.proofs.Split.{by-bool}
+use Rattle.refusal.specs.declared.Refusal.{Refusal}
 use Rattle.refusal.specs.declared.Refusal.the-variants.{Protected}
-use Rattle.refusal.specs.declared.Admission.the-variants as admission
-use Rattle.board.specs.Supply.{supplied}
-use Rattle.board.proofs.Supply.{Supplied, refused-not, supplied-parts}
-use Rattle.verdict.proofs.Supply.{then-parts}
-use Rattle.plan.specs.Plan.{barred, planable}
+use Rattle.refusal.specs.declared.Admission.{Admission}
+use Rattle.refusal.specs.declared.Admission.the-variants.{Admitted, Refused}
+use Rattle.refusal.specs.Order.{firstOf}
+use Rattle.refusal.proofs.Order.{first-here, first-on, first-none, then, then-parts, first-append, first-exactly}
+use Rattle.board.specs.Supply.{supplyRefusals, supplied}
+use Rattle.board.proofs.Supply.{Supplied, supplied-parts}
+use Rattle.plan.specs.Plan.{barred, planRefusals, planable}
 
-module _ (n : ℕ) (image card : List ℕ) (e : planable n image card ≡ admission.Admitted) where
-  parts : (supplied n (length image) (length card) ≡ admission.Admitted) × (cond (barred image card) (admission.Refused Protected) admission.Admitted ≡ admission.Admitted)
-  unfolding planable
-  parts = then-parts (supplied n (length image) (length card)) (cond (barred image card) (admission.Refused Protected) admission.Admitted) e
+module _ (n : ℕ) (image card : List ℕ) where
+  planable-then : planable n image card ≡ then (supplied n (length image) (length card)) (firstOf ((Protected, barred image card) ∷ []))
+  unfolding planable supplied
+  planable-then = first-append (supplyRefusals n (length image) (length card)) ((Protected, barred image card) ∷ [])
 
-  pub planable-supplied : supplied n (length image) (length card) ≡ admission.Admitted
-  planable-supplied = parts .0
+  -- s is what image and card come to
+  module _ (s : Admission) (is : s ≡ supplied n (length image) (length card)) where
+    by-supply : (a : Admission) → s ≡ a → planable n image card ≡ then a (firstOf ((Protected, barred image card) ∷ []))
+    by-supply a so = planable-then ∙ ap (λ (x : Admission). then x (firstOf ((Protected, barred image card) ∷ []))) (sym is ∙ so)
 
-  pub planable-lengths : Supplied n (length image) (length card)
-  planable-lengths = supplied-parts n (length image) (length card) (parts .0)
+    pub planable-refused : (why : Refusal) → s ≡ Refused why → planable n image card ≡ Refused why
+    planable-refused why so = by-supply (Refused why) so
 
-  pub planable-free : barred image card ≡ false
-  planable-free = by-bool (barred image card) (λ b. refused-not _ (rw b at (parts .1))) (λ b. b)
+    pub planable-barred : s ≡ Admitted → barred image card ≡ true → planable n image card ≡ Refused Protected
+    planable-barred so h = by-supply Admitted so ∙ first-here _ _ _ h
+
+    pub planable-all : s ≡ Admitted → barred image card ≡ false → planable n image card ≡ Admitted
+    planable-all so h = by-supply Admitted so ∙ first-on _ _ _ h ∙ first-none
+
+  -- what an admitted call was supplied with
+  module _ (e : planable n image card ≡ Admitted) where
+    parts : (supplied n (length image) (length card) ≡ Admitted) × (firstOf ((Protected, barred image card) ∷ []) ≡ Admitted)
+    parts = then-parts _ _ (sym planable-then ∙ e)
+
+    pub planable-supplied : supplied n (length image) (length card) ≡ Admitted
+    planable-supplied = parts .0
+
+    pub planable-lengths : Supplied n (length image) (length card)
+    planable-lengths = supplied-parts n (length image) (length card) (parts .0)
+
+    pub planable-free : barred image card ≡ false
+    planable-free = first-exactly ((Protected, barred image card) ∷ []) Admitted .0 (parts .1) .0

@@ -14,7 +14,8 @@ use Rattle.verdict.specs.declared.Verdict.{Verdict}
 use Rattle.verdict.specs.declared.Verdict.the-variants as verdict
 use Rattle.verdict.specs.Verdict.{Judged}
 use Rattle.verdict.specs.Checked.{workBytes, Checked}
-use Rattle.verdict.proofs.Theorems.{one-verdict}
+use Rattle.verdict.specs.Report.{inFields}
+use Rattle.verdict.proofs.Theorems.{one-verdict, checked-verdict}
 use Rattle.cells.proofs.Judgement.{judged}
 use Rattle.plan.specs.Plan.{planEvents, planOf, barred, planable, planned}
 use Rattle.plan.proofs.Passes.{plan-verdict}
@@ -70,8 +71,8 @@ planable-passes n image card y bytes e =
     plan-text-passes n image card (s .some) (s .most) (s .options) y bytes (planable-free n image card e)
 
 -- The logger's checker, given a text that its plan writer wrote and a work area of the right size, answers Pass: its promise allows nothing else.
-pub checker-passes : (image card w w′ : List ℕ) (v : Verdict) → allBytes image ≡ true → allBytes card ≡ true → planable loggerPages image card ≡ admission.Admitted → length w ≡ workBytes loggerPages → Checked loggerPages (planOf image) image card w v w′ → v ≡ verdict.Pass
+pub checker-passes : (image card w w′ : List ℕ) (v : Verdict) → allBytes image ≡ true → allBytes card ≡ true → planable loggerPages image card ≡ admission.Admitted → length w ≡ workBytes loggerPages → Checked loggerPages (planOf image) image card w (inFields v) w′ → v ≡ verdict.Pass
 checker-passes image card w w′ v y bytes e lw c =
     let short : length (planOf image) ≤ limit = omega (arith, plan-at-most image (planable-lengths loggerPages image card e .most)) in
     let admitted = plan-checkable loggerPages image card w y short (planable-supplied loggerPages image card e) lw in
-    one-verdict loggerPages (eventsOf (planOf image)) image card v verdict.Pass (rw admitted at c) (planable-passes loggerPages image card y bytes e)
+    one-verdict loggerPages (eventsOf (planOf image)) image card v verdict.Pass (checked-verdict loggerPages (planOf image) image card w v w′ admitted c) (planable-passes loggerPages image card y bytes e)

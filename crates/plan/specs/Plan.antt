@@ -7,14 +7,13 @@ use lib.ListN.{length, take, drop}
 use Rattle.board.specs.Layout.{pageBytes, flashFirst, pagesOf}
 use Rattle.board.specs.Protection.{lockedFrom, wordFrom, anyProtected}
 use Rattle.request.specs.Spelled.{four, downloading, gettingStatus}
+use Rattle.refusal.specs.declared.Refusal.{Refusal}
 use Rattle.refusal.specs.declared.Refusal.the-variants.{Protected}
 use Rattle.refusal.specs.declared.Admission.{Admission}
-use Rattle.refusal.specs.declared.Admission.the-variants as admission
-use Rattle.refusal.specs.declared.Done.the-variants.{Refused}
+use Rattle.refusal.specs.Order.{firstOf}
+use Rattle.refusal.specs.Delivery.{Delivery, delivered}
+use Rattle.board.specs.Supply.{supplyRefusals}
 use Rattle.job.specs.Event.{Event, request, textOf}
-use Rattle.refusal.specs.Delivery.{Delivery, delivery, delivered}
-use Rattle.board.specs.Supply.{supplied}
-use Rattle.verdict.specs.Checked.{then}
 
 -- DNLOAD of the data xs with this wValue
 abbrev pub download : ℕ → List ℕ → Event
@@ -73,16 +72,14 @@ planOf image = textOf (planEvents image)
 unfoldable pub barred : List ℕ → List ℕ → Bool
 barred image card = lockedFrom 0 card || anyProtected (wordFrom 0 card) (pagesOf (length image)) 0
 
--- rows 7, 8 and 12, "checked in this order"
+-- rows 7, 8 and 12
+abbrev pub planRefusals : ℕ → List ℕ → List ℕ → List (Refusal × Bool)
+planRefusals n image card = supplyRefusals n (length image) (length card) ++ ((Protected, barred image card) ∷ [])
+
+-- the first of them, whatever buffer is lent
 unfoldable pub planable : ℕ → List ℕ → List ℕ → Admission
-planable n image card =
-    then (supplied n (length image) (length card)) (cond (barred image card) (admission.Refused Protected) admission.Admitted)
+planable n image card = firstOf (planRefusals n image card)
 
--- "A refusal leaves state and every buffer unchanged"; "11 comes last"
-abbrev pub ruled : Admission → List ℕ → List ℕ → Delivery
-ruled admission.Admitted text out = delivered text out
-ruled (admission.Refused r) text out = delivery (Refused r) out
-
--- the plan writer, for a board of n pages
+-- the plan writer, for a board of n pages: these rows, then 11
 unfoldable pub planned : ℕ → List ℕ → List ℕ → List ℕ → Delivery
-planned n image card out = ruled (planable n image card) (planOf image) out
+planned n image card out = delivered (planRefusals n image card) (planOf image) out

@@ -1,6 +1,7 @@
 -- `checker::admit` meets its contract. Assumes nothing.
 use mathlib.Core.Path.{_∙_, sym}
-use Rattle.checker.proofs.Judging.{checkable-work, checkable-refused, checkable-readable}
+use Rattle.verdict.proofs.Supply.{checkable-work}
+use Rattle.checker.proofs.Judging.{checkable-refused, checkable-readable}
 use borrow.Author.Needs.{needs}
 use Rattle.checker.proofs.admit.Statement.{statement}
 use Rattle.checker.proofs.admit.Tie as tie
@@ -9,7 +10,7 @@ work-bytes-requires : tie.Need-work-bytes-requires
 work-bytes-requires c κs = search needs
 
 returns : tie.Need-returns
-returns c = checkable-work _ _ _ _ _ (λ e. c .if1 .taken (e ∙ sym (c .before .work-bytes .ensures)))
+returns c = sym (checkable-work _ _ _ _ _ (λ e. c .if1 .taken (e ∙ sym (c .before .work-bytes .ensures))))
 
 supplied-requires : tie.Need-supplied-requires
 supplied-requires c κs = search needs

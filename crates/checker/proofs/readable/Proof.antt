@@ -1,5 +1,6 @@
 -- `checker::readable` meets its contract. Assumes nothing.
-use Rattle.checker.proofs.Judging.{readable-bytes, readable-refused}
+use mathlib.Core.Path.{sym}
+use Rattle.job.proofs.Answers.{measured-refused, measured-bytes}
 use borrow.Author.Needs.{needs}
 use Rattle.checker.proofs.readable.Statement.{statement}
 use Rattle.checker.proofs.readable.Tie as tie
@@ -14,10 +15,10 @@ enum-known-measured : tie.Need-enum-known-measured
 enum-known-measured c = search needs
 
 returns : tie.Need-returns
-returns c = readable-bytes _ _ (c .before .before .measure .ensures) _ (c .enum-told .given .1)
+returns c = sym (measured-bytes _ _ (c .before .before .measure .ensures) _ (c .enum-told .given .1) .0)
 
 returns-2 : tie.Need-returns-2
-returns-2 c = readable-refused _ _ (c .before .before .before .measure .ensures) _ (c .before .measured .given .1)
+returns-2 c = sym (measured-refused _ _ (c .before .before .before .measure .ensures) _ (c .before .measured .given .1))
 
 pub readable-spec : {M : Type 1} → statement M
 readable-spec =
