@@ -8,7 +8,7 @@ use borrow.Author.Tests.{eq-eqb, ne-eqb, lt-ltb, le-ltb, eqb-true, eqb-false, lt
 use Rattle.laws.proofs.Split.{or-false}
 use Rattle.refusal.specs.declared.Refusal.the-variants.{Image, Card}
 use Rattle.refusal.specs.declared.Admission.the-variants.{Admitted, Refused}
-use Rattle.refusal.proofs.Order.{first-here, first-on, first-none, first-exactly}
+use Rattle.refusal.proofs.First.{first-here, first-on, first-none, first-exactly}
 use Rattle.board.specs.Layout.{flashBytes, optionBytes}
 use Rattle.board.specs.Supply.{supplyRefusals, supplied}
 

@@ -9,19 +9,15 @@ use Rattle.device.specs.declared.Device.{Device}
 use Rattle.device.specs.State.{started}
 use Rattle.refusal.specs.declared.Admission.{Admission}
 use Rattle.refusal.specs.declared.Admission.the-variants as admission
-use Rattle.refusal.specs.Order.{firstOf}
-use Rattle.refusal.proofs.Order.{then}
 use Rattle.laws.specs.Lists.{allBytes}
 use Rattle.job.specs.Event.{Event, attach, request, fits, proper}
 use Rattle.job.specs.Text.{eventsOf}
-use Rattle.job.specs.Calls.{textRefusals}
 use Rattle.job.proofs.EventText.{proper-parts, good-proper}
 use Rattle.verdict.specs.declared.Verdict.{Verdict}
 use Rattle.verdict.specs.declared.Verdict.the-variants as verdict
-use Rattle.board.specs.Supply.{supplied}
 use Rattle.verdict.specs.Report.{inFields}
-use Rattle.verdict.specs.Checked.{workBytes, checkable, Checked}
-use Rattle.verdict.proofs.Supply.{Checkable, checkable-then, checkable-parts}
+use Rattle.verdict.specs.Checked.{checkable, Checked}
+use Rattle.verdict.proofs.Supply.{Checkable, checkable-parts}
 use Rattle.cells.specs.Cells.{overOf, endVerdict, overVerdict, begun, verdictOf}
 use Rattle.cells.proofs.Events.{Fitting}
 use Rattle.cells.proofs.Runs.{AllFit}
@@ -43,16 +39,6 @@ module _ (n : ℕ) (es : List Event) (image card w w₁ w₂ : List ℕ) (r : Ou
   unfolding verdictOf
   judged-ended d v is so = so ∙ sym (ap (overVerdict n image card) (over-is ∙ ap (λ (x : Outcome). overAs x w₂) is))
 
--- the refusals in their order: s is what image and card come to
-module _ (n : ℕ) (t : List ℕ) (image card work : ℕ) (size : work ≡ workBytes n) (s : Admission) (is : s ≡ supplied n image card) where
-  by-supply : (a : Admission) → s ≡ a → checkable n t image card work ≡ then a (firstOf (textRefusals t))
-  by-supply a so = checkable-then n t image card work size ∙ ap (λ (x : Admission). then x (firstOf (textRefusals t))) (sym is ∙ so)
-
-  pub checkable-refused : (why : Refusal) → s ≡ admission.Refused why → admission.Refused why ≡ checkable n t image card work
-  checkable-refused why so = sym (by-supply (admission.Refused why) so)
-
-  pub checkable-readable : (a : Admission) → s ≡ admission.Admitted → a ≡ firstOf (textRefusals t) → a ≡ checkable n t image card work
-  checkable-readable a so r = r ∙ sym (by-supply admission.Admitted so)
 
 event-fits : (e : Event) → fits e ≡ true → Fitting e
 unfolding fits

@@ -14,7 +14,7 @@ use Rattle.refusal.specs.declared.Done.{Done}
 use Rattle.refusal.specs.declared.Done.the-variants.{Bytes, Refused}
 use Rattle.refusal.specs.Order.{firstOf}
 use Rattle.refusal.specs.Delivery.{inNumbers, delivery}
-use Rattle.refusal.proofs.Order.{refused-not}
+use Rattle.refusal.proofs.First.{refused-not}
 use Rattle.refusal.proofs.Delivery.{numbers-injective, counted-bytes, counted-refused, delivers-refusal, delivers-eleven, delivers-bytes, delivered-bytes, delivered-own}
 use Rattle.job.specs.Event.{textOf, packedOf}
 use Rattle.job.specs.Text.{limit, firstBad, eventsOf}

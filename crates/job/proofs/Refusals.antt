@@ -1,17 +1,15 @@
 -- What the refusals of reader and writer come to, row by row. Assumes nothing.
-use mathlib.Core.Path.{_≡_, ap, _∙_}
+use mathlib.Core.Path.{_≡_, _∙_}
 use mathlib.Core.Bool.{true, false}
-use mathlib.Core.List.{List, [], _∷_}
+use mathlib.Core.List.{List}
 use Prim.Native.Nat.{ℕ, _≤_, _<_}
-use lib.Dec.{ltb}
 use lib.ListN.{length}
 use borrow.Author.Tests.{eq-eqb, ne-eqb, eqb-true, lt-ltb, le-ltb, ltb-false, not-false}
 use Rattle.refusal.specs.declared.Refusal.{Refusal}
 use Rattle.refusal.specs.declared.Refusal.the-variants.{Text, Line, Request}
-use Rattle.refusal.specs.declared.Admission.{Admission}
 use Rattle.refusal.specs.declared.Admission.the-variants.{Admitted, Refused}
 use Rattle.refusal.specs.Order.{firstOf}
-use Rattle.refusal.proofs.Order.{first-here, first-on, first-none, then, first-append, first-exactly}
+use Rattle.refusal.proofs.First.{first-here, first-on, first-none, first-append, first-exactly}
 use Rattle.job.specs.Event.{textOf}
 use Rattle.job.specs.Text.{limit, firstBad}
 use Rattle.job.specs.Packed.{packs, unpacked}
@@ -43,17 +41,14 @@ module _ (p : List ℕ) where
   packed-parts e = not-false _ (first-exactly (packedRefusals p) Admitted .0 e .0)
 
   -- and its text
-  written : (a : Admission) → firstOf (packedRefusals p) ≡ a → firstOf (writeRefusals p) ≡ then a (firstOf ((Text, ltb limit (length (textOf (unpacked p)))) ∷ []))
-  written a e = first-append (packedRefusals p) _ ∙ ap (λ (x : Admission). then x (firstOf ((Text, ltb limit (length (textOf (unpacked p)))) ∷ []))) e
-
   pub write-refusal : (r : Refusal) → firstOf (packedRefusals p) ≡ Refused r → firstOf (writeRefusals p) ≡ Refused r
-  write-refusal r e = written (Refused r) e
+  write-refusal r e = first-append (packedRefusals p) _ (Refused r) e
 
   pub write-long : firstOf (packedRefusals p) ≡ Admitted → limit < length (textOf (unpacked p)) → firstOf (writeRefusals p) ≡ Refused Text
-  write-long e h = written Admitted e ∙ first-here _ _ _ (lt-ltb limit (length (textOf (unpacked p))) h)
+  write-long e h = first-append (packedRefusals p) _ Admitted e ∙ first-here _ _ _ (lt-ltb limit (length (textOf (unpacked p))) h)
 
   pub write-within : firstOf (packedRefusals p) ≡ Admitted → length (textOf (unpacked p)) ≤ limit → firstOf (writeRefusals p) ≡ Admitted
-  write-within e h = written Admitted e ∙ first-on _ _ _ (le-ltb limit (length (textOf (unpacked p))) h) ∙ first-none
+  write-within e h = first-append (packedRefusals p) _ Admitted e ∙ first-on _ _ _ (le-ltb limit (length (textOf (unpacked p))) h) ∙ first-none
 
   pub write-parts : firstOf (writeRefusals p) ≡ Admitted → (packs p ≡ true) × (length (textOf (unpacked p)) ≤ limit)
   write-parts e = let none = first-exactly (writeRefusals p) Admitted .0 e in (not-false _ (none .0), ltb-false _ _ (none .1 .0))

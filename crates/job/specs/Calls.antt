@@ -16,7 +16,7 @@ use Rattle.job.specs.Event.{Event, attach, request, textOf, packedOf}
 use Rattle.job.specs.Text.{limit, dataFrom, firstLine, eventOf, wellSpelled, firstBad, eventsOf}
 use Rattle.job.specs.Packed.{capped, packs, unpacked}
 
--- rows 9 and 10, of reader and checker
+-- rows 9 and 10
 abbrev pub textRefusals : List ℕ → List (Refusal × Bool)
 textRefusals t =
     (Text, ltb limit (length t))
@@ -27,7 +27,7 @@ textRefusals t =
 unfoldable pub measureOf : List ℕ → Done
 measureOf t = counted (firstOf (textRefusals t)) (length (packedOf (eventsOf t)))
 
--- the reader
+-- the reader: 9, 10, 11
 unfoldable pub readOf : List ℕ → List ℕ → Delivery
 readOf t out = delivered (textRefusals t) (packedOf (eventsOf t)) out
 
@@ -35,15 +35,15 @@ readOf t out = delivered (textRefusals t) (packedOf (eventsOf t)) out
 abbrev pub packedRefusals : List ℕ → List (Refusal × Bool)
 packedRefusals p = (Request, not (packs p)) ∷ []
 
--- "before 9 and 11"
+-- "before 9 and 11": row 9 behind it
 abbrev pub writeRefusals : List ℕ → List (Refusal × Bool)
 writeRefusals p = packedRefusals p ++ ((Text, ltb limit (length (textOf (unpacked p)))) ∷ [])
 
--- how long the text of a packed list is
+-- how long the text of a packed list is, as far as the limit
 unfoldable pub sizeOf : List ℕ → Done
 sizeOf p = counted (firstOf (packedRefusals p)) (capped (length (textOf (unpacked p))))
 
--- the text writer
+-- the text writer: 5, 9, 11
 unfoldable pub writeOf : List ℕ → List ℕ → Delivery
 writeOf p out = delivered (writeRefusals p) (textOf (unpacked p)) out
 

@@ -10,7 +10,7 @@ use Rattle.refusal.specs.declared.Refusal.the-variants as refusal
 use Rattle.refusal.specs.declared.Admission.{Admission}
 use Rattle.refusal.specs.declared.Admission.the-variants as admission
 use Rattle.refusal.specs.Order.{firstOf}
-use Rattle.refusal.proofs.Order.{first-here, first-on, first-none, first-exactly}
+use Rattle.refusal.proofs.First.{first-here, first-on, first-none, first-exactly}
 use Rattle.request.specs.Request.{transferBytes}
 use Rattle.device.specs.declared.Device.{Device}
 use Rattle.device.specs.State.{started}

@@ -7,7 +7,8 @@ use Rattle.board.specs.Layout.{loggerPages}
 use Rattle.refusal.specs.declared.Refusal.{Refusal}
 use Rattle.refusal.specs.Refusal.{numberOf}
 use Rattle.refusal.specs.Order.{before}
-use Rattle.refusal.proofs.Order.{NoneApply, First, first-exactly, Applies, none-before}
+use Rattle.refusal.proofs.First.{NoneApply, First, first-exactly}
+use Rattle.refusal.proofs.Order.{Applies, none-before}
 use Rattle.device.specs.declared.Device.{Device}
 use Rattle.device.specs.WellFormed.{wellFormed}
 use Rattle.device.proofs.Form.{form-of, well-formed}

@@ -1,5 +1,5 @@
 -- What the plan writer's own rows come to, and what an admitted call was supplied with. Assumes nothing.
-use mathlib.Core.Path.{_≡_, ap, _∙_, sym}
+use mathlib.Core.Path.{_≡_, _∙_}
 use mathlib.Core.Bool.{true, false}
 use mathlib.Core.List.{List, [], _∷_}
 use Prim.Native.Nat.{ℕ}
@@ -9,34 +9,31 @@ use Rattle.refusal.specs.declared.Refusal.the-variants.{Protected}
 use Rattle.refusal.specs.declared.Admission.{Admission}
 use Rattle.refusal.specs.declared.Admission.the-variants.{Admitted, Refused}
 use Rattle.refusal.specs.Order.{firstOf}
-use Rattle.refusal.proofs.Order.{first-here, first-on, first-none, then, then-parts, first-append, first-exactly}
+use Rattle.refusal.proofs.First.{first-here, first-on, first-none, then, first-append, append-parts, first-exactly}
 use Rattle.board.specs.Supply.{supplyRefusals, supplied}
 use Rattle.board.proofs.Supply.{Supplied, supplied-parts}
 use Rattle.plan.specs.Plan.{barred, planRefusals, planable}
 
 module _ (n : ℕ) (image card : List ℕ) where
-  planable-then : planable n image card ≡ then (supplied n (length image) (length card)) (firstOf ((Protected, barred image card) ∷ []))
+  -- rows 7 and 8, which come to s, then 12
+  planable-then : (s : Admission) → supplied n (length image) (length card) ≡ s → planable n image card ≡ then s (firstOf ((Protected, barred image card) ∷ []))
   unfolding planable supplied
-  planable-then = first-append (supplyRefusals n (length image) (length card)) ((Protected, barred image card) ∷ [])
+  planable-then s is = first-append (supplyRefusals n (length image) (length card)) ((Protected, barred image card) ∷ []) s is
 
-  -- s is what image and card come to
-  module _ (s : Admission) (is : s ≡ supplied n (length image) (length card)) where
-    by-supply : (a : Admission) → s ≡ a → planable n image card ≡ then a (firstOf ((Protected, barred image card) ∷ []))
-    by-supply a so = planable-then ∙ ap (λ (x : Admission). then x (firstOf ((Protected, barred image card) ∷ []))) (sym is ∙ so)
+  pub planable-refused : (why : Refusal) → supplied n (length image) (length card) ≡ Refused why → planable n image card ≡ Refused why
+  planable-refused why is = planable-then (Refused why) is
 
-    pub planable-refused : (why : Refusal) → s ≡ Refused why → planable n image card ≡ Refused why
-    planable-refused why so = by-supply (Refused why) so
+  pub planable-barred : supplied n (length image) (length card) ≡ Admitted → barred image card ≡ true → planable n image card ≡ Refused Protected
+  planable-barred is h = planable-then Admitted is ∙ first-here _ _ _ h
 
-    pub planable-barred : s ≡ Admitted → barred image card ≡ true → planable n image card ≡ Refused Protected
-    planable-barred so h = by-supply Admitted so ∙ first-here _ _ _ h
-
-    pub planable-all : s ≡ Admitted → barred image card ≡ false → planable n image card ≡ Admitted
-    planable-all so h = by-supply Admitted so ∙ first-on _ _ _ h ∙ first-none
+  pub planable-all : supplied n (length image) (length card) ≡ Admitted → barred image card ≡ false → planable n image card ≡ Admitted
+  planable-all is h = planable-then Admitted is ∙ first-on _ _ _ h ∙ first-none
 
   -- what an admitted call was supplied with
   module _ (e : planable n image card ≡ Admitted) where
     parts : (supplied n (length image) (length card) ≡ Admitted) × (firstOf ((Protected, barred image card) ∷ []) ≡ Admitted)
-    parts = then-parts _ _ (sym planable-then ∙ e)
+    unfolding planable supplied
+    parts = append-parts (supplyRefusals n (length image) (length card)) ((Protected, barred image card) ∷ []) e
 
     pub planable-supplied : supplied n (length image) (length card) ≡ Admitted
     planable-supplied = parts .0

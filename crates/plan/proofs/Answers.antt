@@ -27,22 +27,22 @@ image-fits n image card s is admitted h = let most = supplied-parts n image card
 module _ (n : ℕ) (image card out : List ℕ) (s : Admission) (is : s ≡ supplied n (length image) (length card)) where
   pub plan-refused : (why : Refusal) → s ≡ admission.Refused why → delivery (Refused why) out ≡ planned n image card out
   unfolding planned planable
-  plan-refused why e = delivers-refusal (planRefusals n image card) _ out why (planable-refused n image card s is why e)
+  plan-refused why e = delivers-refusal (planRefusals n image card) _ out why (planable-refused n image card why (sym is ∙ e))
 
   module _ (admitted : s ≡ admission.Admitted) where
     pub plan-barred : barred image card ≡ true → delivery (Refused Protected) out ≡ planned n image card out
     unfolding planned planable
-    plan-barred h = delivers-refusal (planRefusals n image card) _ out Protected (planable-barred n image card s is admitted h)
+    plan-barred h = delivers-refusal (planRefusals n image card) _ out Protected (planable-barred n image card (sym is ∙ admitted) h)
 
     module _ (unbarred : barred image card ≡ false) (size : ℕ) (length-is : size ≡ length (planOf image)) where
       pub plan-short : length out < size → delivery (Refused Output) out ≡ planned n image card out
       unfolding planned planable
       plan-short h =
           let l : length out < length (planOf image) = omega arith in
-          delivers-eleven (planRefusals n image card) (planOf image) out (planable-all n image card s is admitted unbarred) l
+          delivers-eleven (planRefusals n image card) (planOf image) out (planable-all n image card (sym is ∙ admitted) unbarred) l
 
       pub plan-done : (y : List ℕ) → size ≤ length out → y ≡ put 0 (planOf image) out → delivery (Bytes size) y ≡ planned n image card out
       unfolding planned planable
       plan-done y h p =
           let l : length (planOf image) ≤ length out = omega arith in
-          delivers-bytes (planRefusals n image card) (planOf image) out (planable-all n image card s is admitted unbarred) size y length-is l p
+          delivers-bytes (planRefusals n image card) (planOf image) out (planable-all n image card (sym is ∙ admitted) unbarred) size y length-is l p

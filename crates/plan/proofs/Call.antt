@@ -22,4 +22,4 @@ plan-clean image y = text-clean (planEvents image) (plan-proper image y)
 -- with a work area of the right size
 pub plan-checkable : (n : ℕ) (image card w : List ℕ) → allBytes image ≡ true → length (planOf image) ≤ limit → supplied n (length image) (length card) ≡ Admitted → length w ≡ workBytes n → checkable n (planOf image) (length image) (length card) (length w) ≡ Admitted
 plan-checkable n image card w y short s lw =
-    checkable-then n (planOf image) (length image) (length card) (length w) lw ∙ rw s (text-good (planOf image) short (plan-clean image y))
+    checkable-then n (planOf image) (length image) (length card) (length w) lw Admitted s ∙ text-good (planOf image) short (plan-clean image y)

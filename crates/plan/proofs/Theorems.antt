@@ -75,4 +75,4 @@ pub checker-passes : (image card w w′ : List ℕ) (v : Verdict) → allBytes i
 checker-passes image card w w′ v y bytes e lw c =
     let short : length (planOf image) ≤ limit = omega (arith, plan-at-most image (planable-lengths loggerPages image card e .most)) in
     let admitted = plan-checkable loggerPages image card w y short (planable-supplied loggerPages image card e) lw in
-    one-verdict loggerPages (eventsOf (planOf image)) image card v verdict.Pass (checked-verdict loggerPages (planOf image) image card w v w′ admitted c) (planable-passes loggerPages image card y bytes e)
+    one-verdict loggerPages (eventsOf (planOf image)) image card v verdict.Pass (checked-verdict loggerPages (planOf image) image card w v w′ c admitted) (planable-passes loggerPages image card y bytes e)

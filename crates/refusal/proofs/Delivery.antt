@@ -19,13 +19,13 @@ use Rattle.refusal.specs.Refusal.{numberOf}
 use Rattle.refusal.specs.Order.{firstOf}
 use Rattle.refusal.specs.Delivery.{inNumbers, Delivery, delivery, counted, answered, withOutput, delivered}
 use Rattle.refusal.proofs.Numbers.{refusal-injective, number-some}
-use Rattle.refusal.proofs.Order.{refused-not, first-here, first-on, first-none, then, then-parts, first-append}
+use Rattle.refusal.proofs.First.{by-admission, refused-not, first-here, first-on, first-none, first-append, append-parts, First, first-exactly}
 
 -- the two numbers of an answer
-unfoldable pub first : List ℕ → ℕ
+unfoldable first : List ℕ → ℕ
 first l = getD l 0 0
 
-unfoldable pub second : List ℕ → ℕ
+unfoldable second : List ℕ → ℕ
 second l = getD l 1 0
 
 pub numbers-injective : (r s : Done) → inNumbers r ≡ inNumbers s → r ≡ s
@@ -39,7 +39,7 @@ numbers-injective (Refused r) (Refused s) e = ap Refused (refusal-injective r s 
 pub delivery-injective : (r s : Done) (x y : List ℕ) → delivery r x ≡ delivery s y → (r ≡ s) × (x ≡ y)
 delivery-injective r s x y e = (numbers-injective r s (ap (λ (o : Delivery). o .answer) e), ap (λ (o : Delivery). o .buffer) e)
 
--- the two answers of a call that is taken, and of one that is refused
+-- what an answer that only counts tells
 pub counted-bytes : (a : Admission) (n m : ℕ) → counted a n ≡ Bytes m → (a ≡ admission.Admitted) × (m ≡ n)
 counted-bytes admission.Admitted n m e = (refl, cc)
 counted-bytes (admission.Refused r) n m e = let z : _≡_ {A = ℕ} 0 1 = cc in absurd (omega arith)
@@ -57,26 +57,23 @@ answered-refused : (a : Admission) (xs out y : List ℕ) (r : Refusal) → answe
 answered-refused admission.Admitted xs out y r e = let z = delivery-injective (Bytes (length xs)) (Refused r) (put 0 xs out) y e .0 in counted-refused admission.Admitted (length xs) r z
 answered-refused (admission.Refused s) xs out y r e = counted-refused (admission.Refused s) 0 r (delivery-injective (Refused s) (Refused r) out y e .0)
 
--- what is delivered, by what the refusals before row 11 come to
+-- what is delivered, by what the refusals in front of row 11 come to
 module _ (rs : List (Refusal × Bool)) (xs out : List ℕ) where
   abbrev short : List (Refusal × Bool)
   short = (Output, ltb (length out) (length xs)) ∷ []
 
-  last : (a : Admission) → firstOf rs ≡ a → firstOf (withOutput rs xs out) ≡ then a (firstOf short)
-  last a e = first-append rs short ∙ ap (λ (x : Admission). then x (firstOf short)) e
-
   pub delivers-refusal : (r : Refusal) → firstOf rs ≡ admission.Refused r → delivery (Refused r) out ≡ delivered rs xs out
   unfolding delivered
-  delivers-refusal r e = rw (last (admission.Refused r) e)
+  delivers-refusal r e = rw (first-append rs short (admission.Refused r) e)
 
   module _ (free : firstOf rs ≡ admission.Admitted) where
     pub delivers-eleven : length out < length xs → delivery (Refused Output) out ≡ delivered rs xs out
     unfolding delivered
-    delivers-eleven h = rw (last admission.Admitted free ∙ first-here _ _ _ (lt-ltb (length out) (length xs) h))
+    delivers-eleven h = rw (first-append rs short admission.Admitted free ∙ first-here _ _ _ (lt-ltb (length out) (length xs) h))
 
     pub delivers-output : length xs ≤ length out → delivered rs xs out ≡ delivery (Bytes (length xs)) (put 0 xs out)
     unfolding delivered
-    delivers-output h = rw (last admission.Admitted free ∙ first-on _ _ _ (le-ltb (length out) (length xs) h) ∙ first-none)
+    delivers-output h = rw (first-append rs short admission.Admitted free ∙ first-on _ _ _ (le-ltb (length out) (length xs) h) ∙ first-none)
 
     -- by another name of the length and of the buffer
     pub delivers-bytes : (n : ℕ) (y : List ℕ) → n ≡ length xs → length xs ≤ length out → y ≡ put 0 xs out → delivery (Bytes n) y ≡ delivered rs xs out
@@ -87,12 +84,15 @@ module _ (rs : List (Refusal × Bool)) (xs out : List ℕ) where
   unfolding delivered
   delivered-bytes n e =
       let b = answered-bytes (firstOf (withOutput rs xs out)) xs out n e in
-      (then-parts (firstOf rs) (firstOf short) (sym (first-append rs short) ∙ b .0) .0, b .1, b .2)
+      (append-parts rs short (b .0) .0, b .1, b .2)
 
-  -- a refusal is the first of these and of row 11
-  pub delivered-refusal : (r : Refusal) (y : List ℕ) → delivered rs xs out ≡ delivery (Refused r) y → firstOf (withOutput rs xs out) ≡ admission.Refused r
+  -- a refusal is the first of them and of row 11 that applies
+  given : (r : Refusal) (y : List ℕ) → delivered rs xs out ≡ delivery (Refused r) y → firstOf (withOutput rs xs out) ≡ admission.Refused r
   unfolding delivered
-  delivered-refusal r y e = answered-refused (firstOf (withOutput rs xs out)) xs out y r e
+  given r y e = answered-refused (firstOf (withOutput rs xs out)) xs out y r e
+
+  pub delivered-first : (r : Refusal) (y : List ℕ) → delivered rs xs out ≡ delivery (Refused r) y → First (withOutput rs xs out) r
+  delivered-first r y e = first-exactly (withOutput rs xs out) (admission.Refused r) .0 (given r y e)
 
   eleven-alone : (r : Refusal) → firstOf short ≡ admission.Refused r → Output ≡ r
   eleven-alone r e =
@@ -100,10 +100,9 @@ module _ (rs : List (Refusal × Bool)) (xs out : List ℕ) where
       (λ h. let is : admission.Refused Output ≡ admission.Refused r = sym (first-here Output _ [] (lt-ltb (length out) (length xs) h)) ∙ e in cc)
       (λ h. refused-not r (sym e ∙ first-on Output _ [] (le-ltb (length out) (length xs) h) ∙ first-none))
 
-  -- one that is not 11 is the first of these alone
+  -- one that is not 11 is the first of them alone
   pub delivered-own : (r : Refusal) (y : List ℕ) → (Output ≡ r → ⊥) → delivered rs xs out ≡ delivery (Refused r) y → firstOf rs ≡ admission.Refused r
-  delivered-own r y other e = go (firstOf rs) (sym (first-append rs short) ∙ delivered-refusal r y e)
-    where
-      go : (a : Admission) → then a (firstOf short) ≡ admission.Refused r → a ≡ admission.Refused r
-      go admission.Admitted h = absurd (other (eleven-alone r h))
-      go (admission.Refused s) h = h
+  delivered-own r y other e =
+      by-admission (firstOf rs)
+      (λ is. absurd (other (eleven-alone r (sym (first-append rs short admission.Admitted is) ∙ given r y e))))
+      (λ s is. is ∙ sym (first-append rs short (admission.Refused s) is) ∙ given r y e)

@@ -28,12 +28,12 @@ pub record Delivery : Type 0 where
 abbrev pub delivery : Done → List ℕ → Delivery
 delivery r out = record { answer = inNumbers r; buffer = out }
 
--- a call that is taken has n bytes to put out
+-- what a call answers that has n bytes to give
 abbrev pub counted : Admission → ℕ → Done
 counted admission.Admitted n = Bytes n
 counted (admission.Refused r) n = Refused r
 
--- "A refusal leaves state and every buffer unchanged. An output buffer keeps its bytes past the output"
+-- a call that has the bytes xs to give: "A refusal leaves state and every buffer unchanged. An output buffer keeps its bytes past the output"
 abbrev pub answered : Admission → List ℕ → List ℕ → Delivery
 answered admission.Admitted xs out = delivery (Bytes (length xs)) (put 0 xs out)
 answered (admission.Refused r) xs out = delivery (Refused r) out
@@ -42,6 +42,6 @@ answered (admission.Refused r) xs out = delivery (Refused r) out
 abbrev pub withOutput : List (Refusal × Bool) → List ℕ → List ℕ → List (Refusal × Bool)
 withOutput rs xs out = rs ++ ((Output, ltb (length out) (length xs)) ∷ [])
 
--- a call with these refusals whose output is xs
+-- a call with these refusals and the output xs
 unfoldable pub delivered : List (Refusal × Bool) → List ℕ → List ℕ → Delivery
 delivered rs xs out = answered (firstOf (withOutput rs xs out)) xs out

@@ -13,7 +13,7 @@ use Rattle.laws.proofs.Append.{put-behind}
 use Rattle.refusal.specs.declared.Refusal.the-variants.{Output}
 use Rattle.refusal.specs.declared.Done.the-variants.{Bytes, Refused}
 use Rattle.refusal.specs.Delivery.{delivery, delivered}
-use Rattle.refusal.proofs.Order.{first-none}
+use Rattle.refusal.proofs.First.{first-none}
 use Rattle.refusal.proofs.Delivery.{delivers-eleven, delivers-bytes}
 use Rattle.verdict.specs.declared.Verdict.{Verdict}
 use Rattle.verdict.specs.declared.Verdict.the-variants as verdict

@@ -1,7 +1,7 @@
 -- `checker::admit` meets its contract. Assumes nothing.
 use mathlib.Core.Path.{_∙_, sym}
-use Rattle.verdict.proofs.Supply.{checkable-work}
-use Rattle.checker.proofs.Judging.{checkable-refused, checkable-readable}
+use Rattle.refusal.specs.declared.Admission.the-variants as admission
+use Rattle.verdict.proofs.Supply.{checkable-work, checkable-then}
 use borrow.Author.Needs.{needs}
 use Rattle.checker.proofs.admit.Statement.{statement}
 use Rattle.checker.proofs.admit.Tie as tie
@@ -28,13 +28,13 @@ returns-2 : tie.Need-returns-2
 returns-2 c =
     let s = c .before .before .before in
     let w = s .before in
-    checkable-refused _ _ _ _ _ (w .if1 .left ∙ w .before .work-bytes .ensures) _ (s .supplied .ensures) _ (c .before .supplied2 .given .1)
+    sym (checkable-then _ _ _ _ _ (w .if1 .left ∙ w .before .work-bytes .ensures) _ (sym (s .supplied .ensures) ∙ c .before .supplied2 .given .1))
 
 returns-3 : tie.Need-returns-3
 returns-3 c =
     let s = c .before .before .before in
     let w = s .before in
-    checkable-readable _ _ _ _ _ (w .if1 .left ∙ w .before .work-bytes .ensures) _ (s .supplied .ensures) _ (c .before .enum-told .given .1) (c .readable .ensures)
+    c .readable .ensures ∙ sym (checkable-then _ _ _ _ _ (w .if1 .left ∙ w .before .work-bytes .ensures) admission.Admitted (sym (s .supplied .ensures) ∙ c .before .enum-told .given .1))
 
 pub admit-spec : {M : Type 1} → statement M
 admit-spec =

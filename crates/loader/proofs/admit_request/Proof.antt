@@ -1,6 +1,6 @@
 -- `loader::admit_request` meets its contract. Assumes nothing.
 use mathlib.Core.Path.{sym, _∙_}
-use Rattle.refusal.proofs.Order.{first-here, first-on, first-none}
+use Rattle.refusal.proofs.First.{first-here, first-on, first-none}
 use borrow.Author.Needs.{needs}
 use Rattle.loader.proofs.admit_request.Statement.{statement}
 use Rattle.loader.proofs.admit_request.Tie as tie
