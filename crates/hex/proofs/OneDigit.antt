@@ -84,11 +84,8 @@ digit-value d v =
     (digit-ranges d v)
 
 -- no digit is a byte below 48: not a tab, not LF, not the 0 that stands for what is past the end
-pub digit-above : (x : ℕ) → 48 ≤ digitOf x
-digit-above x =
-    by-lt (x % 16) 10
-    (λ h. let e : digitOf x ≡ x % 16 + 48 = digit-low x h in omega arith)
-    (λ h. let e : digitOf x ≡ x % 16 + 55 = digit-high x h in omega arith)
+pub digit-above : (d : ℕ) → valueOf d < 16 → 48 ≤ d
+digit-above d v = by-lt d 48 (λ h. let e : valueOf d ≡ 16 = value-below d h in absurd (omega arith)) (λ h. h)
 
 -- the digit of a number is that of its low half
 digit-mod : (x : ℕ) → digitOf (x % 16) ≡ digitOf x

@@ -9,48 +9,37 @@ use lib.Dec.{eqb}
 use lib.ListN.{length, take, drop, getD, length-append, take-append-drop}
 use lib.Seq.{length-take-le, drop-append-seam}
 use Rattle.laws.proofs.Split.{by-bool, and-true}
-use Rattle.request.specs.Setup.{fitsOf}
 use Rattle.request.proofs.Lengths.{fits-eight}
-use Rattle.hex.specs.Hex.{bytesOf}
-use Rattle.laws.specs.Lists.{same, allBytes}
+use Rattle.hex.specs.Hex.{hexOf}
+use Rattle.hex.proofs.Fields.{digits-hex}
 use Rattle.job.specs.Event.{Event, attach, request, fits, inBytes, proper, lineOf, textOf}
 use Rattle.job.specs.Text.{firstLine, onto, linesOf, eventOf, wellSpelled, badFrom, firstBad, eventsIn, eventsOf}
-use Rattle.job.proofs.Spelling.{spelled}
-use Rattle.laws.proofs.Lists.{same-eq, bytes-take, bytes-drop}
+use Rattle.job.proofs.Spelling.{spells-hex, spelled}
+use Rattle.laws.proofs.Lists.{bytes-take, bytes-drop}
 use Rattle.job.proofs.FirstLine.{first-spelled, lines-first, joined}
-use Rattle.job.proofs.Formed.{event-spelled, formed-spelled, event-bytes}
+use Rattle.job.proofs.Formed.{formed-fits, formed-line, well-spelled, event-spelled, event-bytes}
 
 -- the line of an event that fits gives the event back
-module _ (q : List ℕ) (f : fitsOf q ≡ true) (y : allBytes q ≡ true) where
-  halves : take 8 q ++ drop 8 q ≡ q
-  halves = take-append-drop 8 q
-
-  request-event : eventOf (lineOf (request q)) ≡ request q
-  unfolding lineOf
-  request-event = event-spelled (take 8 q) (drop 8 q) (length-take-le 8 q (fits-eight q f)) (bytes-take 8 q y) (bytes-drop 8 q y) ∙ ap request halves
-
-  request-formed : wellSpelled (lineOf (request q)) ≡ true
-  unfolding lineOf
-  request-formed =
-      formed-spelled (take 8 q) (drop 8 q) (length-take-le 8 q (fits-eight q f)) (bytes-take 8 q y) (bytes-drop 8 q y) (ap fitsOf halves ∙ f)
-
 line-event : (e : Event) → fits e ≡ true → inBytes e ≡ true → eventOf (lineOf e) ≡ e
 unfolding fits inBytes eventOf lineOf
 line-event attach f y = refl
-line-event (request q) f y = request-event q f y
+line-event (request q) f y =
+    let a = spells-hex (take 8 q) (bytes-take 8 q y) in
+    let b = spells-hex (drop 8 q) (bytes-drop 8 q y) in
+    event-spelled a b (length-take-le 8 q (fits-eight q f)) ∙ ap request (take-append-drop 8 q)
 
 line-formed : (e : Event) → fits e ≡ true → inBytes e ≡ true → wellSpelled (lineOf e) ≡ true
-unfolding fits inBytes wellSpelled eventOf lineOf same
-line-formed attach f y = refl
-line-formed (request q) f y = request-formed q f y
+line-formed e f y = well-spelled (lineOf e) e (line-event e f y) f refl
 
 -- the line of an event is the first line of a text that begins with it
 line-first : (e : Event) (s : List ℕ) → firstLine (lineOf e ++ s) ≡ lineOf e
 unfolding lineOf firstLine
 line-first attach s = refl
 line-first (request q) s =
-    let e : spelled (take 8 q) (drop 8 q) [] ++ s ≡ spelled (take 8 q) (drop 8 q) s = simp append-assoc in
-    ap firstLine e ∙ first-spelled (take 8 q) (drop 8 q) s
+    let a = hexOf (take 8 q) in
+    let b = hexOf (drop 8 q) in
+    let e : spelled a b [] ++ s ≡ spelled a b s = simp append-assoc in
+    ap firstLine e ∙ first-spelled a b s (digits-hex (take 8 q)) (digits-hex (drop 8 q))
 
 line-some : (e : Event) → 0 < length (lineOf e)
 unfolding lineOf
@@ -103,15 +92,6 @@ joined-lines (x ∷ t) =
     (λ e. rw e (ap (λ (l : List ℕ). x ∷ l) (joined-lines t)))
     (λ e. rw e (joined-onto x (linesOf t) ∙ ap (λ (l : List ℕ). x ∷ l) (joined-lines t)))
 
--- a well-formed line is the line of its event, which is proper
-formed-line : (l : List ℕ) → wellSpelled l ≡ true → lineOf (eventOf l) ≡ l
-unfolding wellSpelled
-formed-line l h = sym (same-eq l (lineOf (eventOf l)) (and-true (fits (eventOf l)) (same l (lineOf (eventOf l))) h .1))
-
-formed-fits : (l : List ℕ) → wellSpelled l ≡ true → fits (eventOf l) ≡ true
-unfolding wellSpelled
-formed-fits l h = and-true (fits (eventOf l)) (same l (lineOf (eventOf l))) h .0
-
 -- lines none of which is malformed: the first is well formed, and so are the others
 pub good-first : (l : List ℕ) (ls : List (List ℕ)) (k : ℕ) → badFrom (suc k) (l ∷ ls) ≡ 0 → (wellSpelled l ≡ true) × (badFrom (suc (suc k)) ls ≡ 0)
 unfolding badFrom
@@ -125,7 +105,7 @@ unfolding textOf eventsIn joined
 lines-text [] k h = refl
 lines-text (l ∷ ls) k h =
     let p = good-first l ls k h in
-    ap₂ _++_ (formed-line l (p .0)) (lines-text ls (suc k) (p .1))
+    ap₂ _++_ (sym (formed-line l (p .0))) (lines-text ls (suc k) (p .1))
 
 lines-proper : (ls : List (List ℕ)) (k : ℕ) → badFrom (suc k) ls ≡ 0 → proper (eventsIn ls) ≡ true
 unfolding proper eventsIn

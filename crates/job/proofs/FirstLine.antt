@@ -1,16 +1,16 @@
--- Laws of `same`, of the first line of a text, and of its lines. Assumes nothing.
-use mathlib.Core.Path.{_≡_, refl, ap, ap₂, _∙_}
-use mathlib.Core.Bool.{true, false, false≢true}
+-- Laws of the first line of a text, and of its lines. Assumes nothing.
+use mathlib.Core.Path.{_≡_, refl, ap, _∙_}
+use mathlib.Core.Bool.{true}
 use mathlib.Core.List.{List, [], _∷_, _++_}
-use Prim.Native.Nat.{ℕ, _/_, _≤_, _<_}
+use Prim.Native.Nat.{ℕ, _≤_, _<_}
 use native.Mathlib.Omega.{arith}
 use lib.Dec.{eqb}
 use lib.ListN.{length, drop, getD}
-use borrow.Author.Tests.{eqb-true, eq-eqb, ne-eqb}
-use Rattle.laws.proofs.Split.{by-bool, and-true}
-use Rattle.hex.specs.Hex.{hexOf, digitOf}
+use borrow.Author.Tests.{ne-eqb}
+use Rattle.laws.proofs.Split.{by-bool}
+use Rattle.hex.specs.Hex.{allDigits}
 use Rattle.hex.proofs.OneDigit.{digit-above}
-use Rattle.laws.specs.Lists.{same}
+use Rattle.hex.proofs.Fields.{digits-cons}
 use Rattle.job.specs.Text.{firstLine, onto, linesOf}
 use Rattle.job.proofs.Spelling.{spelled}
 
@@ -41,21 +41,20 @@ first-length [] = omega arith
 first-length (x ∷ u) = by-bool (eqb x 10) (λ e. rw e (omega arith)) (λ e. rw e (let h = first-length u in omega arith))
 
 -- digits do not end a line
-first-hex : (xs s : List ℕ) → firstLine (hexOf xs ++ s) ≡ hexOf xs ++ firstLine s
-unfolding firstLine hexOf
-first-hex [] s = refl
-first-hex (x ∷ xs) s =
-    let h : 48 ≤ digitOf (x / 16) = digit-above (x / 16) in
-    let l : 48 ≤ digitOf x = digit-above x in
-    let m : digitOf (x / 16) ≡ 10 → ⊥ = λ q. omega arith in
-    let n : digitOf x ≡ 10 → ⊥ = λ q. omega arith in
-    rw (ne-eqb (digitOf (x / 16)) 10 m, ne-eqb (digitOf x) 10 n, first-hex xs s)
-
-pub first-spelled : (a b r : List ℕ) → firstLine (spelled a b r) ≡ spelled a b []
+first-digits : (ds s : List ℕ) → allDigits ds ≡ true → firstLine (ds ++ s) ≡ ds ++ firstLine s
 unfolding firstLine
-first-spelled a b r =
+first-digits [] s h = refl
+first-digits (d ∷ ds) s h =
+    let p = digits-cons d ds h in
+    let k : 48 ≤ d = digit-above d (p .0) in
+    let n : d ≡ 10 → ⊥ = λ q. omega arith in
+    rw (ne-eqb d 10 n, first-digits ds s (p .1))
+
+pub first-spelled : (a b r : List ℕ) → allDigits a ≡ true → allDigits b ≡ true → firstLine (spelled a b r) ≡ spelled a b []
+unfolding firstLine
+first-spelled a b r ha hb =
     ap (λ (l : List ℕ). 81 ∷ 9 ∷ l)
-    (first-hex a (9 ∷ (hexOf b ++ (10 ∷ r))) ∙ ap (λ (l : List ℕ). hexOf a ++ (9 ∷ l)) (first-hex b (10 ∷ r)))
+    (first-digits a (9 ∷ (b ++ (10 ∷ r))) ha ∙ ap (λ (l : List ℕ). a ++ (9 ∷ l)) (first-digits b (10 ∷ r) hb))
 
 pub first-attach : (r : List ℕ) → firstLine (65 ∷ 10 ∷ r) ≡ 65 ∷ 10 ∷ []
 unfolding firstLine

@@ -13,7 +13,7 @@ use Rattle.hex.specs.Hex.{allDigits, bytesOf}
 use Rattle.job.specs.declared.Item.the-variants as item
 use Rattle.job.specs.Text.{firstLine, wellSpelled, lineLength}
 use Rattle.job.specs.Calls.{itemOf}
-use Rattle.job.proofs.Formed.{Asks, asks, asks-facts, asks-length, asks-digits, asks-data}
+use Rattle.job.proofs.Formed.{Asks, asks, asks-size, asks-length, asks-digits, asks-data}
 use Rattle.job.proofs.LineLength.{length-good, attaches}
 use Rattle.job.proofs.Walking.{setup-here, setup-asked, item-attach, item-request}
 
@@ -37,7 +37,7 @@ module _ (t : List ℕ) (at : ℕ) (more : at < length t) (formed : wellSpelled 
     -- its setup lies in the text
     pub known-setup : at + 18 ≤ length t
     known-setup =
-        let s = asks-facts line-asks .size in
+        let s = asks-size line-asks in
         let d : length (drop at t) ≡ length t - at = length-drop at t in
         omega arith
 
@@ -51,7 +51,7 @@ module _ (t : List ℕ) (at : ℕ) (more : at < length t) (formed : wellSpelled 
 
       pub known-room : at + 20 + n * 2 ≤ length t
       known-room =
-          let s = asks-facts line-asks .size in
+          let s = asks-size line-asks in
           let d : length (drop at t) ≡ length t - at = length-drop at t in
           let e = counted in
           omega arith

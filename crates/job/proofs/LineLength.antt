@@ -2,22 +2,18 @@
 use mathlib.Core.Path.{_≡_, refl, ap, ap₂, _∙_, sym}
 use mathlib.Core.Bool.{true, false, true≢false}
 use mathlib.Core.List.{List, [], _∷_, _++_}
-use Prim.Native.Nat.{ℕ, _+_, _-_, _*_, _/_, _%_, _≤_, _<_}
+use Prim.Native.Nat.{ℕ, _+_, _-_, _*_, _/_, _≤_, _<_}
 use native.Mathlib.Omega.{arith}
 use lib.ListN.{length, take, drop, getD, length-append, length-drop}
 use lib.Seq.{length-take-le}
-use borrow.Author.Tests.{eq-eqb}
-use Rattle.laws.proofs.Split.{by-bool, and-true}
+use Rattle.laws.proofs.Split.{by-bool}
 use Rattle.request.specs.Setup.{setupOf, dataLength}
 use Rattle.hex.specs.Hex.{bytesOf, allDigits}
-use Rattle.hex.proofs.Fields.{bytes-are, bytes-length}
-use Rattle.laws.specs.Lists.{same}
 use Rattle.job.specs.Event.{attach, fits, lineOf}
 use Rattle.job.specs.Text.{firstLine, eventOf, wellSpelled, lineLength}
-use Rattle.job.proofs.Spelling.{is-spelled}
-use Rattle.laws.proofs.Lists.{same-refl, same-eq}
+use Rattle.job.proofs.Spelling.{Spells, spells-field, is-spelled}
 use Rattle.job.proofs.FirstLine.{first-rest, first-kind, first-length, first-attach}
-use Rattle.job.proofs.Formed.{fits-if, setup-front, Asks, asks, asks-facts, asks-formed, asks-length, asks-setup, asks-data, asks-digits, asks-body}
+use Rattle.job.proofs.Formed.{formed-line, well-spelled, event-attach, fits-if, setup-front, Asks, asks, asks-facts, asks-formed, asks-size, asks-length, asks-setup, asks-data, asks-digits, asks-body}
 
 pub length-good : (u : List ℕ) → wellSpelled (firstLine u) ≡ true → lineLength u ≡ length (firstLine u)
 unfolding lineLength
@@ -36,11 +32,6 @@ length-within u n e =
 pub length-and-bound : (u : List ℕ) (n : ℕ) → n ≡ lineLength u → (n ≡ lineLength u) × (n ≤ length u)
 length-and-bound u n e = (e, length-within u n e)
 
--- a line of `A`
-event-attach : (l : List ℕ) → getD l 0 0 ≡ 65 → eventOf l ≡ attach
-unfolding eventOf
-event-attach l k = rw (eq-eqb (getD l 0 0) 65 k)
-
 -- the first line is well formed and spells Attach
 pub record Attaches (u : List ℕ) : Type 0 where
   pub first : firstLine u ≡ 65 ∷ 10 ∷ []
@@ -48,23 +39,21 @@ pub record Attaches (u : List ℕ) : Type 0 where
   pub is : u ≡ 65 ∷ 10 ∷ drop 2 u
 
 pub attaches : (u : List ℕ) → wellSpelled (firstLine u) ≡ true → getD u 0 0 ≡ 65 → Attaches u
-unfolding wellSpelled lineOf
+unfolding lineOf
 attaches u h k =
     let l = firstLine u in
     let e : eventOf l ≡ attach = event-attach l (first-kind u ∙ k) in
-    let p = and-true (fits (eventOf l)) (same l (lineOf (eventOf l))) h in
-    let s : l ≡ 65 ∷ 10 ∷ [] = same-eq l (lineOf (eventOf l)) (p .1) ∙ ap lineOf e in
+    let s : l ≡ 65 ∷ 10 ∷ [] = formed-line l h ∙ ap lineOf e in
     let i : u ≡ 65 ∷ 10 ∷ drop (length l) u = sym (first-rest u) ∙ ap (λ (x : List ℕ). x ++ drop (length l) u) s in
     record { first = s; event = e; is = i ∙ ap (λ (n : ℕ). 65 ∷ 10 ∷ drop n u) (ap length s) }
 
 attach-formed : (u : List ℕ) → getD u 0 0 ≡ 65 → getD u 1 0 ≡ 10 → wellSpelled (firstLine u) ≡ true
-unfolding wellSpelled fits lineOf
+unfolding fits lineOf
 attach-formed [] k e = absurd (omega arith)
 attach-formed (x ∷ []) k e = absurd (omega arith)
 attach-formed (x ∷ y ∷ r) k e =
     let s : firstLine (x ∷ y ∷ r) ≡ 65 ∷ 10 ∷ [] = ap₂ (λ (m : ℕ) (n : ℕ). firstLine (m ∷ n ∷ r)) k e ∙ first-attach r in
-    let i : eventOf (65 ∷ 10 ∷ []) ≡ attach = event-attach (65 ∷ 10 ∷ []) refl in
-    rw (s, i) (same-refl (65 ∷ 10 ∷ []))
+    well-spelled (firstLine (x ∷ y ∷ r)) attach (event-attach (firstLine (x ∷ y ∷ r)) (first-kind (x ∷ y ∷ r) ∙ k)) refl s
 
 pub attach-line : (u : List ℕ) → getD u 0 0 ≡ 65 → getD u 1 0 ≡ 10 → 2 ≡ lineLength u
 attach-line u k e =
@@ -89,7 +78,7 @@ module _ (u : List ℕ) (k : getD u 0 0 ≡ 81) where
   no-request n = by-bool (wellSpelled (firstLine u)) (λ h. absurd (n (asks u h (λ z. omega arith)))) (length-bad u)
 
   pub too-short : length u < 20 → 0 ≡ lineLength u
-  too-short h = no-request (λ x. let s = asks-facts x .size in omega arith)
+  too-short h = no-request (λ x. let s = asks-size x in omega arith)
 
   pub no-tab : (getD u 1 0 ≡ 9 → ⊥) → 0 ≡ lineLength u
   no-tab n = no-request (λ x. n (asks-facts x .first))
@@ -110,11 +99,15 @@ module _ (u : List ℕ) (k : getD u 0 0 ≡ 81) where
         no-request
         (λ x.
         let e = asked-is x in
-        let s = asks-facts x .size in
+        let s = asks-size x in
         omega arith)
 
     pub no-end : (getD u end 0 ≡ 10 → ⊥) → 0 ≡ lineLength u
-    no-end d = no-request (λ x. d (ap (λ (i : ℕ). getD u i 0) (ends ∙ ap (λ (i : ℕ). 19 + i * 2) (asked-is x)) ∙ asks-facts x .stop))
+    no-end d =
+        no-request
+        (λ x.
+        let e : end ≡ 19 + length (x .fieldB) = let z = asked-is x in let t = x .spellsB .twice in omega arith in
+        d (ap (λ (i : ℕ). getD u i 0) e ∙ asks-facts x .stop))
 
     pub no-data : allDigits (take (end - 19) (drop 19 u)) ≡ false → 0 ≡ lineLength u
     no-data d =
@@ -131,26 +124,28 @@ module _ (u : List ℕ) (k : getD u 0 0 ≡ 81) where
         let o : n ≤ length (drop 19 u) = simp length-drop (omega arith) in
         let g : 20 + n ≤ length u = omega arith in
         let e : end - 19 ≡ n = omega arith in
-        let even : n % 2 ≡ 0 = omega arith in
-        let a = bytesOf (take 16 (drop 2 u)) in
-        let b = bytesOf (take n (drop 19 u)) in
-        let la : length a ≡ 8 = bytes-length (take 16 (drop 2 u)) ∙ rw (length-take-le 16 (drop 2 u) l) in
-        let z : length b ≡ length (take n (drop 19 u)) / 2 = bytes-length (take n (drop 19 u)) in
-        let w : length (take n (drop 19 u)) ≡ n = length-take-le n (drop 19 u) o in
-        let la₈ : 8 ≤ length a = omega arith in
-        let sz : length (a ++ b) ≡ length a + length b = length-append a b in
-        let want : dataLength (setupOf (a ++ b)) ≡ dataLength (setupOf a) = ap dataLength (setup-front a b la₈) in
-        let body : allDigits (take n (drop 19 u)) ≡ true = ap (λ (i : ℕ). allDigits (take i (drop 19 u))) (sym e) ∙ d in
-        let x : Asks u =
+        let x = take 16 (drop 2 u) in
+        let y = take n (drop 19 u) in
+        let wx : length x ≡ 8 * 2 = length-take-le 16 (drop 2 u) l in
+        let wy : length y ≡ m * 2 = length-take-le n (drop 19 u) o in
+        let sx : Spells x (bytesOf x) = spells-field x 8 p wx in
+        let sy : Spells y (bytesOf y) = spells-field y m (ap (λ (i : ℕ). allDigits (take i (drop 19 u))) (sym e) ∙ d) wy in
+        let la : length (bytesOf x) ≡ 8 = let z = sx .twice in omega arith in
+        let lb : length (bytesOf y) ≡ m = let z = sy .twice in omega arith in
+        let sz : length (bytesOf x ++ bytesOf y) ≡ length (bytesOf x) + length (bytesOf y) = length-append (bytesOf x) (bytesOf y) in
+        let want : dataLength (setupOf (bytesOf x ++ bytesOf y)) ≡ dataLength (setupOf (bytesOf x)) = ap dataLength (setup-front (bytesOf x) (bytesOf y) (omega arith)) in
+        let q : Asks u =
         record {
-          a = a;
-          b = b;
+          a = bytesOf x;
+          b = bytesOf y;
           r = drop (20 + n) u;
+          fieldA = x;
+          fieldB = y;
           whole = la;
-          fit = fits-if (a ++ b) (omega arith) (omega arith);
-          inA = bytes-are (take 16 (drop 2 u)) p;
-          inB = bytes-are (take n (drop 19 u)) body;
-          is = is-spelled u n g k f s (ap (λ (i : ℕ). getD u i 0) (sym ends) ∙ t) p body even;
+          fit = fits-if (bytesOf x ++ bytesOf y) (omega arith) (omega arith);
+          spellsA = sx;
+          spellsB = sy;
+          is = is-spelled u n g k f s (ap (λ (i : ℕ). getD u i 0) (sym ends) ∙ t);
         } in
-        let q : 20 + length b * 2 ≡ end + 1 = omega arith in
-        sym (length-good u (asks-formed x) ∙ asks-length x ∙ q)
+        let z : 20 + length (bytesOf y) * 2 ≡ end + 1 = omega arith in
+        sym (length-good u (asks-formed q) ∙ asks-length q ∙ z)

@@ -13,7 +13,7 @@ use Rattle.request.specs.Setup.{setupOf, dataLength}
 use Rattle.hex.specs.Hex.{bytesOf}
 use Rattle.job.specs.Event.{packOf}
 use Rattle.job.specs.Text.{firstLine, eventOf}
-use Rattle.job.proofs.Formed.{Asks, asks-facts, asks-event, asks-length, asks-setup, asks-data, asks-spells}
+use Rattle.job.proofs.Formed.{Asks, asks-size, asks-event, asks-length, asks-setup, asks-data, asks-spells}
 use Rattle.job.proofs.LineLength.{Attaches}
 
 asks-packed : {u : List ℕ} → (x : Asks u) → packOf (eventOf (firstLine u)) ≡ 1 ∷ (x .a ++ x .b)
@@ -26,7 +26,7 @@ asks-room {u} x at n h =
     let e : length (packOf (eventOf (firstLine u))) ≡ suc (length (x .a ++ x .b)) = ap length (asks-packed x) in
     let l : length (x .a ++ x .b) ≡ length (x .a) + length (x .b) = length-append (x .a) (x .b) in
     let w = x .whole in
-    let s = asks-facts x .size in
+    let s = asks-size x in
     (omega arith, omega arith)
 
 -- a request, packed in three steps: its kind, its setup, its data

@@ -17,6 +17,8 @@ use Rattle.job.specs.Event.{Event, attach, request, fits, lineOf, textOf
 use Rattle.job.specs.Text.{limit}
 use Rattle.job.specs.Packed.{pieceSize, firstPiece, piecesAfter, eventIn, wellPacked, pieceLength, lineSize, capped, allPacked, eventsAmong, packs, unpacked}
 use Rattle.job.specs.Calls.{sizeOf}
+use Rattle.hex.specs.Hex.{hexOf}
+use Rattle.hex.proofs.Fields.{hex-length}
 use Rattle.job.proofs.Spelling.{spelled-size}
 use Rattle.job.proofs.EventPacked.{size-some, pieces-first, well-pack, well-fits}
 use Rattle.job.proofs.PieceLength.{piece-good, piece-bad}
@@ -81,7 +83,9 @@ unfolding lineOf
 line-length-of q h =
     let l : length (take 8 q) ≡ 8 = length-take-le 8 q h in
     let d : length (drop 8 q) ≡ length q - 8 = length-drop 8 q in
-    spelled-size (take 8 q) (drop 8 q) [] l ∙ (let e : 20 + length (drop 8 q) * 2 + 0 ≡ 20 + (length q - 8) * 2 = omega arith in e)
+    let a : length (hexOf (take 8 q)) ≡ length (take 8 q) * 2 = hex-length (take 8 q) in
+    let b : length (hexOf (drop 8 q)) ≡ length (drop 8 q) * 2 = hex-length (drop 8 q) in
+    spelled-size (hexOf (take 8 q)) (hexOf (drop 8 q)) [] (omega arith) ∙ (let e : 20 + length (hexOf (drop 8 q)) + 0 ≡ 20 + (length q - 8) * 2 = omega arith in e)
 
 attach-length : length (lineOf attach) ≡ 2
 unfolding lineOf

@@ -1,89 +1,84 @@
--- A request's line by its places: what stands where in it, and that what stands so is one. Assumes nothing.
+-- A field that spells some bytes; and a request's line by its places: what stands where in it, and that what stands so is one. Assumes nothing.
 use mathlib.Core.Path.{_≡_, refl, ap, ap₂, _∙_, sym}
 use mathlib.Core.Bool.{true}
 use mathlib.Core.List.{List, _∷_, _++_}
-use Prim.Native.Nat.{ℕ, suc, _+_, _*_, _%_, _≤_, _<_}
+use Prim.Native.Nat.{ℕ, suc, _+_, _*_, _/_, _%_, _≤_, _<_}
 use native.Mathlib.Omega.{arith}
-use lib.ListN.{length, take, drop, getD, length-append, length-drop, take-append-drop}
-use lib.Seq.{length-take-le, drop-cons, drop-drop, take-at, getD-at, drop-append-add, getD-drop}
+use lib.ListN.{length, take, drop, getD, length-append, take-append-drop}
+use lib.Seq.{drop-cons, drop-drop, take-at, getD-at, drop-append-add, getD-drop}
 use Rattle.hex.specs.Hex.{hexOf, bytesOf, allDigits}
-use Rattle.hex.proofs.Fields.{hex-length, hex-bytes}
+use Rattle.hex.proofs.Fields.{hex-length, bytes-length, bytes-hex, digits-hex, hex-bytes}
+use Rattle.laws.specs.Lists.{allBytes}
 
--- a request's line, with its setup a, its data b, and r after it
+-- the field ds spells the bytes xs: it has digits only, two a byte
+pub record Spells (ds xs : List ℕ) : Type 0 where
+  pub digits : allDigits ds ≡ true
+  pub bytes : bytesOf ds ≡ xs
+  pub twice : length ds ≡ length xs * 2
+
+pub spells-field : (ds : List ℕ) (n : ℕ) → allDigits ds ≡ true → length ds ≡ n * 2 → Spells ds (bytesOf ds)
+spells-field ds n h e =
+    let l : length (bytesOf ds) ≡ length ds / 2 = bytes-length ds in
+    record { digits = h; bytes = refl; twice = omega arith }
+
+pub spells-hex : (xs : List ℕ) → allBytes xs ≡ true → Spells (hexOf xs) xs
+spells-hex xs h = record { digits = digits-hex xs; bytes = bytes-hex xs h; twice = hex-length xs }
+
+pub hex-spells : {ds xs : List ℕ} → Spells ds xs → hexOf xs ≡ ds
+hex-spells {ds} {xs} s =
+    let e : length ds % 2 ≡ 0 = let t = s .twice in omega arith in
+    ap hexOf (sym (s .bytes)) ∙ hex-bytes ds (s .digits) e
+
+-- a request's line: the field a of its setup, the field b of its data, and r after it
 abbrev pub spelled : List ℕ → List ℕ → List ℕ → List ℕ
-spelled a b r = 81 ∷ 9 ∷ (hexOf a ++ (9 ∷ (hexOf b ++ (10 ∷ r))))
+spelled a b r = 81 ∷ 9 ∷ (a ++ (9 ∷ (b ++ (10 ∷ r))))
 
 -- what stands where in such a line at the front of u
 pub record Spelled (u a b r : List ℕ) : Type 0 where
   pub kind : getD u 0 0 ≡ 81
   pub first : getD u 1 0 ≡ 9
-  pub setup : take 16 (drop 2 u) ≡ hexOf a
+  pub setup : take 16 (drop 2 u) ≡ a
   pub second : getD u 18 0 ≡ 9
-  pub body : take (length b * 2) (drop 19 u) ≡ hexOf b
-  pub stop : getD u (19 + length b * 2) 0 ≡ 10
-  pub rest : drop (20 + length b * 2) u ≡ r
-  pub size : length u ≡ 20 + length b * 2 + length r
+  pub body : take (length b) (drop 19 u) ≡ b
+  pub stop : getD u (19 + length b) 0 ≡ 10
+  pub size : length u ≡ 20 + length b + length r
 
-module _ (a b r : List ℕ) (la : length a ≡ 8) where
-  wide : length (hexOf a) ≡ 16
-  wide = let e : length (hexOf a) ≡ length a * 2 = hex-length a in omega arith
-
-  after : drop 19 (spelled a b r) ≡ hexOf b ++ (10 ∷ r)
+module _ (a b r : List ℕ) (wide : length a ≡ 16) where
+  after : drop 19 (spelled a b r) ≡ b ++ (10 ∷ r)
   after =
-      let e : 17 ≡ length (hexOf a) + 1 = let w = wide in omega arith in
-      ap (λ (k : ℕ). drop k (hexOf a ++ (9 ∷ (hexOf b ++ (10 ∷ r))))) e ∙ drop-append-add (hexOf a) (9 ∷ (hexOf b ++ (10 ∷ r))) 1
+      let e : 17 ≡ length a + 1 = omega arith in
+      ap (λ (k : ℕ). drop k (a ++ (9 ∷ (b ++ (10 ∷ r))))) e ∙ drop-append-add a (9 ∷ (b ++ (10 ∷ r))) 1
 
-  at-stop : (k : ℕ) → getD (spelled a b r) (19 + k) 0 ≡ getD (hexOf b ++ (10 ∷ r)) k 0
-  at-stop k = sym (getD-drop 19 (spelled a b r) k 0) ∙ ap (λ (l : List ℕ). getD l k 0) after
+  pub spelled-size : length (spelled a b r) ≡ 20 + length b + length r
+  spelled-size = simp length-append (omega arith)
 
-  past : (k : ℕ) → drop (19 + k) (spelled a b r) ≡ drop k (hexOf b ++ (10 ∷ r))
-  past k = sym (drop-drop k 19 (spelled a b r)) ∙ ap (drop k) after
-
-  pub spelled-size : length (spelled a b r) ≡ 20 + length b * 2 + length r
-  spelled-size =
-      let w = wide in
-      let e : length (hexOf b) ≡ length b * 2 = hex-length b in
-      simp length-append (omega arith)
-
-  pub spelled-facts : Spelled (spelled a b r) a b r
+  spelled-facts : Spelled (spelled a b r) a b r
   spelled-facts =
       record {
         kind = refl;
         first = refl;
-        setup = take-at (hexOf a) (9 ∷ (hexOf b ++ (10 ∷ r))) 16 wide;
-        second = getD-at (hexOf a) 9 (hexOf b ++ (10 ∷ r)) 0 16 wide;
-        body = ap (take (length b * 2)) after ∙ take-at (hexOf b) (10 ∷ r) (length b * 2) (hex-length b);
-        stop = at-stop (length b * 2) ∙ getD-at (hexOf b) 10 r 0 (length b * 2) (hex-length b);
-        rest = let e : 20 + length b * 2 ≡ 19 + (1 + length b * 2) = omega arith in ap (λ (k : ℕ). drop k (spelled a b r)) e ∙ past (1 + length b * 2) ∙ end;
+        setup = take-at a (9 ∷ (b ++ (10 ∷ r))) 16 wide;
+        second = getD-at a 9 (b ++ (10 ∷ r)) 0 16 wide;
+        body = ap (take (length b)) after ∙ take-at b (10 ∷ r) (length b) refl;
+        stop = sym (getD-drop 19 (spelled a b r) (length b) 0) ∙ ap (λ (l : List ℕ). getD l (length b) 0) after ∙ getD-at b 10 r 0 (length b) refl;
         size = spelled-size;
       }
-    where
-      end : drop (1 + length b * 2) (hexOf b ++ (10 ∷ r)) ≡ r
-      end =
-          let e : 1 + length b * 2 ≡ length (hexOf b) + 1 = let w : length (hexOf b) ≡ length b * 2 = hex-length b in omega arith in
-          ap (λ (k : ℕ). drop k (hexOf b ++ (10 ∷ r))) e ∙ drop-append-add (hexOf b) (10 ∷ r) 1
 
--- what stands so is a line: digits between tabs, n of them in the data
-module _ (u : List ℕ) (n : ℕ) (long : 20 + n ≤ length u) where
-  whole : getD u 0 0 ≡ 81 → getD u 1 0 ≡ 9 → getD u 18 0 ≡ 9 → getD u (19 + n) 0 ≡ 10 → u ≡ 81 ∷ 9 ∷ (take 16 (drop 2 u) ++ (9 ∷ (take n (drop 19 u) ++ (10 ∷ drop (20 + n) u))))
-  whole k f s t =
-      let h₀ : 0 < length u = omega arith in
-      let h₁ : 1 < length u = omega arith in
-      let h₂ : 18 < length u = omega arith in
-      let h₃ : 19 + n < length u = omega arith in
-      let next : suc (19 + n) ≡ 20 + n = omega arith in
-      let d₂ : drop 2 u ≡ take 16 (drop 2 u) ++ drop 18 u = sym (take-append-drop 16 (drop 2 u)) ∙ ap (λ (l : List ℕ). take 16 (drop 2 u) ++ l) (drop-drop 16 2 u) in
-      let d₁₉ : drop 19 u ≡ take n (drop 19 u) ++ drop (19 + n) u = sym (take-append-drop n (drop 19 u)) ∙ ap (λ (l : List ℕ). take n (drop 19 u) ++ l) (drop-drop n 19 u) in
-      let e₀ : u ≡ 81 ∷ drop 1 u = drop-cons u 0 0 h₀ ∙ ap (λ (x : ℕ). x ∷ drop 1 u) k in
-      let e₁ : drop 1 u ≡ 9 ∷ drop 2 u = drop-cons u 1 0 h₁ ∙ ap (λ (x : ℕ). x ∷ drop 2 u) f in
-      let e₁₈ : drop 18 u ≡ 9 ∷ drop 19 u = drop-cons u 18 0 h₂ ∙ ap (λ (x : ℕ). x ∷ drop 19 u) s in
-      let e₁₉ : drop (19 + n) u ≡ 10 ∷ drop (20 + n) u = drop-cons u (19 + n) 0 h₃ ∙ ap₂ (λ (x : ℕ) (k : ℕ). x ∷ drop k u) t next in
-      e₀ ∙ ap (λ (l : List ℕ). 81 ∷ l) (e₁ ∙ ap (λ (l : List ℕ). 9 ∷ l) (d₂ ∙ ap (λ (l : List ℕ). take 16 (drop 2 u) ++ l) (e₁₈ ∙ ap (λ (l : List ℕ). 9 ∷ l) (d₁₉ ∙ ap (λ (l : List ℕ). take n (drop 19 u) ++ l) e₁₉))))
+pub spelled-here : (u a b r : List ℕ) → length a ≡ 16 → u ≡ spelled a b r → Spelled u a b r
+spelled-here u a b r wide is = rw is (spelled-facts a b r wide)
 
-  pub is-spelled : getD u 0 0 ≡ 81 → getD u 1 0 ≡ 9 → getD u 18 0 ≡ 9 → getD u (19 + n) 0 ≡ 10 → allDigits (take 16 (drop 2 u)) ≡ true → allDigits (take n (drop 19 u)) ≡ true → n % 2 ≡ 0 → u ≡ spelled (bytesOf (take 16 (drop 2 u))) (bytesOf (take n (drop 19 u))) (drop (20 + n) u)
-  is-spelled k f s t p q even =
-      let l : 16 ≤ length (drop 2 u) = simp length-drop (omega arith) in
-      let m : n ≤ length (drop 19 u) = simp length-drop (omega arith) in
-      let c : length (take 16 (drop 2 u)) % 2 ≡ 0 = rw (length-take-le 16 (drop 2 u) l) in
-      let d : length (take n (drop 19 u)) % 2 ≡ 0 = rw (length-take-le n (drop 19 u) m) even in
-      rw (hex-bytes (take 16 (drop 2 u)) p c, hex-bytes (take n (drop 19 u)) q d) (whole k f s t)
+-- what stands so is a line, with n bytes between the last tab and LF
+pub is-spelled : (u : List ℕ) (n : ℕ) → 20 + n ≤ length u → getD u 0 0 ≡ 81 → getD u 1 0 ≡ 9 → getD u 18 0 ≡ 9 → getD u (19 + n) 0 ≡ 10 → u ≡ spelled (take 16 (drop 2 u)) (take n (drop 19 u)) (drop (20 + n) u)
+is-spelled u n long k f s t =
+    let h₀ : 0 < length u = omega arith in
+    let h₁ : 1 < length u = omega arith in
+    let h₂ : 18 < length u = omega arith in
+    let h₃ : 19 + n < length u = omega arith in
+    let next : suc (19 + n) ≡ 20 + n = omega arith in
+    let d₂ : drop 2 u ≡ take 16 (drop 2 u) ++ drop 18 u = sym (take-append-drop 16 (drop 2 u)) ∙ ap (λ (l : List ℕ). take 16 (drop 2 u) ++ l) (drop-drop 16 2 u) in
+    let d₁₉ : drop 19 u ≡ take n (drop 19 u) ++ drop (19 + n) u = sym (take-append-drop n (drop 19 u)) ∙ ap (λ (l : List ℕ). take n (drop 19 u) ++ l) (drop-drop n 19 u) in
+    let e₀ : u ≡ 81 ∷ drop 1 u = drop-cons u 0 0 h₀ ∙ ap (λ (x : ℕ). x ∷ drop 1 u) k in
+    let e₁ : drop 1 u ≡ 9 ∷ drop 2 u = drop-cons u 1 0 h₁ ∙ ap (λ (x : ℕ). x ∷ drop 2 u) f in
+    let e₁₈ : drop 18 u ≡ 9 ∷ drop 19 u = drop-cons u 18 0 h₂ ∙ ap (λ (x : ℕ). x ∷ drop 19 u) s in
+    let e₁₉ : drop (19 + n) u ≡ 10 ∷ drop (20 + n) u = drop-cons u (19 + n) 0 h₃ ∙ ap₂ (λ (x : ℕ) (k : ℕ). x ∷ drop k u) t next in
+    e₀ ∙ ap (λ (l : List ℕ). 81 ∷ l) (e₁ ∙ ap (λ (l : List ℕ). 9 ∷ l) (d₂ ∙ ap (λ (l : List ℕ). take 16 (drop 2 u) ++ l) (e₁₈ ∙ ap (λ (l : List ℕ). 9 ∷ l) (d₁₉ ∙ ap (λ (l : List ℕ). take n (drop 19 u) ++ l) e₁₉))))
