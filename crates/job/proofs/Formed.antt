@@ -1,7 +1,7 @@
 -- When a line is well formed, and which event the first line of a text spells. Assumes nothing.
 use mathlib.Core.Path.{_≡_, refl, ap, ap₂, _∙_, sym}
 use mathlib.Core.Bool.{true}
-use mathlib.Core.List.{List, [], _++_, append-assoc}
+use mathlib.Core.List.{List, [], _∷_, _++_, append-assoc}
 use Prim.Native.Nat.{ℕ, _+_, _-_, _*_, _≤_, _<_}
 use native.Mathlib.Omega.{arith}
 use lib.Dec.{eqb}
@@ -41,6 +41,15 @@ event-attach l k = rw (eq-eqb (getD l 0 0) 65 k)
 event-request : (l : List ℕ) → (getD l 0 0 ≡ 65 → ⊥) → eventOf l ≡ request (bytesOf (take 16 (drop 2 l)) ++ bytesOf (take (length l - 20) (drop 19 l)))
 unfolding eventOf
 event-request l n = rw (ne-eqb (getD l 0 0) 65 n)
+
+-- a well-formed line of `A` has LF behind it and no more
+pub formed-attach : (l : List ℕ) → wellSpelled l ≡ true → eventOf l ≡ attach → l ≡ 65 ∷ 10 ∷ []
+unfolding lineOf
+formed-attach l h e = formed-line l h ∙ ap lineOf e
+
+pub attach-line-formed : wellSpelled (65 ∷ 10 ∷ []) ≡ true
+unfolding fits lineOf
+attach-line-formed = well-spelled (65 ∷ 10 ∷ []) attach (event-attach (65 ∷ 10 ∷ []) refl) refl refl
 
 -- a request fits that has its setup, and the data that the setup asks for
 pub fits-if : (q : List ℕ) → 8 ≤ length q → length q ≡ 8 + dataLength (setupOf q) → fitsOf q ≡ true

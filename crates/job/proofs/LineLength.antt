@@ -1,5 +1,5 @@
 -- The length of the first line by the tests that decide it. Assumes nothing.
-use mathlib.Core.Path.{_≡_, refl, ap, ap₂, _∙_, sym}
+use mathlib.Core.Path.{_≡_, ap, ap₂, _∙_, sym}
 use mathlib.Core.Bool.{true, false, true≢false}
 use mathlib.Core.List.{List, [], _∷_, _++_}
 use Prim.Native.Nat.{ℕ, _+_, _-_, _*_, _/_, _≤_, _<_}
@@ -9,11 +9,11 @@ use lib.Seq.{length-take-le}
 use Rattle.laws.proofs.Split.{by-bool}
 use Rattle.request.specs.Setup.{setupOf, dataLength}
 use Rattle.hex.specs.Hex.{bytesOf, allDigits}
-use Rattle.job.specs.Event.{attach, fits, lineOf}
+use Rattle.job.specs.Event.{attach}
 use Rattle.job.specs.Text.{firstLine, eventOf, wellSpelled, lineLength}
 use Rattle.job.proofs.Spelling.{Spells, spells-field, is-spelled}
 use Rattle.job.proofs.FirstLine.{first-rest, first-kind, first-length, first-attach}
-use Rattle.job.proofs.Formed.{formed-line, well-spelled, event-attach, fits-if, setup-front, Asks, asks, asks-facts, asks-formed, asks-size, asks-length, asks-setup, asks-data, asks-digits, asks-body}
+use Rattle.job.proofs.Formed.{formed-attach, attach-line-formed, event-attach, fits-if, setup-front, Asks, asks, asks-facts, asks-formed, asks-size, asks-length, asks-setup, asks-data, asks-digits, asks-body}
 
 pub length-good : (u : List ℕ) → wellSpelled (firstLine u) ≡ true → lineLength u ≡ length (firstLine u)
 unfolding lineLength
@@ -39,21 +39,17 @@ pub record Attaches (u : List ℕ) : Type 0 where
   pub is : u ≡ 65 ∷ 10 ∷ drop 2 u
 
 pub attaches : (u : List ℕ) → wellSpelled (firstLine u) ≡ true → getD u 0 0 ≡ 65 → Attaches u
-unfolding lineOf
 attaches u h k =
     let l = firstLine u in
     let e : eventOf l ≡ attach = event-attach l (first-kind u ∙ k) in
-    let s : l ≡ 65 ∷ 10 ∷ [] = formed-line l h ∙ ap lineOf e in
+    let s : l ≡ 65 ∷ 10 ∷ [] = formed-attach l h e in
     let i : u ≡ 65 ∷ 10 ∷ drop (length l) u = sym (first-rest u) ∙ ap (λ (x : List ℕ). x ++ drop (length l) u) s in
     record { first = s; event = e; is = i ∙ ap (λ (n : ℕ). 65 ∷ 10 ∷ drop n u) (ap length s) }
 
 attach-formed : (u : List ℕ) → getD u 0 0 ≡ 65 → getD u 1 0 ≡ 10 → wellSpelled (firstLine u) ≡ true
-unfolding fits lineOf
 attach-formed [] k e = absurd (omega arith)
 attach-formed (x ∷ []) k e = absurd (omega arith)
-attach-formed (x ∷ y ∷ r) k e =
-    let s : firstLine (x ∷ y ∷ r) ≡ 65 ∷ 10 ∷ [] = ap₂ (λ (m : ℕ) (n : ℕ). firstLine (m ∷ n ∷ r)) k e ∙ first-attach r in
-    well-spelled (firstLine (x ∷ y ∷ r)) attach (event-attach (firstLine (x ∷ y ∷ r)) (first-kind (x ∷ y ∷ r) ∙ k)) refl s
+attach-formed (x ∷ y ∷ r) k e = ap₂ (λ (m : ℕ) (n : ℕ). wellSpelled (firstLine (m ∷ n ∷ r))) k e ∙ ap wellSpelled (first-attach r) ∙ attach-line-formed
 
 pub attach-line : (u : List ℕ) → getD u 0 0 ≡ 65 → getD u 1 0 ≡ 10 → 2 ≡ lineLength u
 attach-line u k e =
