@@ -1,7 +1,7 @@
 -- A device of the proof, which no public promise names: what is known of every board at once. The work area holds a value
 -- and a mark for each byte of memory, and a block. A mark of 1 says that every board holds that value; a byte without it is
 -- the board's own, as it was at the start. Assumes nothing.
-use mathlib.Core.Bool.{Bool, false, cond, not, _&&_}
+use mathlib.Core.Bool.{Bool, cond, not, _&&_}
 use mathlib.Core.List.{List, [], _∷_}
 use Prim.Native.Nat.{ℕ, zero, suc, _+_, _*_}
 use lib.Dec.{eqb, ltb}

@@ -39,7 +39,6 @@ module _ (n : ℕ) (es : List Event) (image card w w₁ w₂ : List ℕ) (r : Ou
   unfolding verdictOf
   judged-ended d v is so = so ∙ sym (ap (overVerdict n image card) (over-is ∙ ap (λ (x : Outcome). overAs x w₂) is))
 
-
 event-fits : (e : Event) → fits e ≡ true → Fitting e
 unfolding fits
 event-fits attach h = tt

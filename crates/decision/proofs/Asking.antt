@@ -13,7 +13,7 @@ use Rattle.device.specs.Table.{allowedOf, rowOf}
 use Rattle.decision.specs.declared.Command.{Command}
 use Rattle.decision.specs.declared.Decision.{Decision}
 use Rattle.decision.specs.declared.Decision.the-variants.{Silent, Stall, Accept, Take, Commands, Read, State, Status}
-use Rattle.decision.specs.Decide.{silentOf, refusedOf, servedOf, decideOf, isStatus}
+use Rattle.decision.specs.Decide.{silentOf, refusedOf, decideOf, isStatus}
 use Rattle.decision.proofs.Cases.{decide-case}
 
 -- a GETSTATUS that is taken

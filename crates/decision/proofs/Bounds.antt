@@ -1,5 +1,5 @@
 -- What a decision asks of the buffers is within them. Assumes nothing.
-use Prim.Native.Nat.{ℕ, _≤_}
+use Prim.Native.Nat.{_≤_}
 use lib.Dec.{T}
 use mathlib.Core.Bool.{true}
 use Rattle.request.specs.declared.Setup.{Setup}

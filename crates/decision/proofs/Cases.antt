@@ -1,6 +1,6 @@
 -- Whatever a request comes to, it is one of ten things: to show a fact of a decision is to show it of these. Assumes nothing.
 use mathlib.Core.Path.{_≡_, refl, ap, _∙_, sym}
-use mathlib.Core.Bool.{Bool, true, false, cond, _&&_, false≢true}
+use mathlib.Core.Bool.{Bool, true, false, false≢true}
 use mathlib.Core.Logic.{⊎-elim}
 use Prim.Native.Nat.{ℕ, _≤_}
 use native.Mathlib.Omega.{arith}
@@ -22,7 +22,7 @@ use Rattle.device.specs.WellFormed.{writeFits}
 use Rattle.decision.specs.declared.Command.{Command}
 use Rattle.decision.specs.declared.Decision.{Decision}
 use Rattle.decision.specs.declared.Decision.the-variants.{Silent, Accept, Take, Commands, Read, State, Status}
-use Rattle.decision.specs.Decide.{decideOf, servedOf, downloadOf, commandedOf, uploadOf, refusedOf, waiting, waitingIf, erasingOf, listedCount, silentOf}
+use Rattle.decision.specs.Decide.{decideOf, servedOf, downloadOf, commandedOf, uploadOf, refusedOf, waiting, waitingIf, listedCount, silentOf}
 
 -- the setup asks for this request, and the mode takes it
 pub record Taken (d : Device) (s : Setup) (r : Request) : Type 0 where

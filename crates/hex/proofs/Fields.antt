@@ -1,6 +1,6 @@
 -- Laws of a field: its length, its digits and bytes by place, and that field and bytes undo each other. Assumes nothing.
 use mathlib.Core.Path.{_≡_, refl, ap₂, _∙_, sym}
-use mathlib.Core.Bool.{true, false, cond, _&&_}
+use mathlib.Core.Bool.{true, cond, _&&_}
 use mathlib.Core.List.{List, [], _∷_}
 use Prim.Native.Nat.{ℕ, zero, suc, _+_, _*_, _/_, _%_, _≤_, _<_}
 use native.Mathlib.Omega.{arith}

@@ -1,8 +1,7 @@
 -- Events, their lines and their packed bytes. Document 01, "Events" and "Job text". Assumes nothing.
-use mathlib.Core.Bool.{Bool, true, false, _&&_}
+use mathlib.Core.Bool.{Bool, true, _&&_}
 use mathlib.Core.List.{List, [], _∷_, _++_}
 use Prim.Native.Nat.{ℕ}
-use lib.Dec.{eqb}
 use lib.ListN.{take, drop}
 use Rattle.request.specs.Setup.{fitsOf}
 use Rattle.laws.specs.Lists.{allBytes}

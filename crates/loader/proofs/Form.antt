@@ -1,16 +1,16 @@
 -- A step from a well-formed state leads to one. Assumes nothing.
 use mathlib.Core.Path.{_≡_, refl}
-use mathlib.Core.Bool.{Bool, true, false, _&&_, true≢false}
+use mathlib.Core.Bool.{Bool, true, false, true≢false}
 use mathlib.Core.List.{List}
 use Prim.Native.Nat.{ℕ, _≤_}
 use native.Mathlib.Omega.{arith}
-use lib.Dec.{T, eqb, ltb}
+use lib.Dec.{T}
 use lib.ListN.{length, take, drop}
 use borrow.Author.Tests.{le-leb}
 use Rattle.laws.proofs.Split.{by-bool}
 use Rattle.board.specs.declared.Place.{Place}
 use Rattle.board.specs.declared.Place.the-variants.{Flash, Ram, Options, Outside}
-use Rattle.board.specs.Layout.{flashBytes, optionsFrom, optionBytes}
+use Rattle.board.specs.Layout.{flashBytes}
 use Rattle.board.specs.Protection.{readProtected, wordOf}
 use Rattle.board.specs.Span.{spans, placeOf}
 use Rattle.request.specs.Setup.{setupOf}

@@ -1,6 +1,6 @@
 -- A request that a loader in order takes. Document 01, "Events", "GETSTATUS", "UPLOAD". Assumes nothing.
 use mathlib.Core.Path.{_≡_}
-use mathlib.Core.Bool.{cond, true, false}
+use mathlib.Core.Bool.{cond, true}
 use mathlib.Core.List.{List, [], _∷_}
 use Prim.Native.Nat.{ℕ}
 use lib.Dec.{eqb}

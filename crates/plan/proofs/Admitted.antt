@@ -12,7 +12,7 @@ use Rattle.refusal.specs.Order.{firstOf}
 use Rattle.refusal.proofs.First.{first-here, first-on, first-none, then, first-append, append-parts, first-exactly}
 use Rattle.board.specs.Supply.{supplyRefusals, supplied}
 use Rattle.board.proofs.Supply.{Supplied, supplied-parts}
-use Rattle.plan.specs.Plan.{barred, planRefusals, planable}
+use Rattle.plan.specs.Plan.{barred, planable}
 
 module _ (n : ℕ) (image card : List ℕ) where
   -- rows 7 and 8, which come to s, then 12

@@ -11,7 +11,6 @@ use Rattle.refusal.specs.declared.Refusal.the-variants.{Output, Protected}
 use Rattle.refusal.specs.declared.Admission.{Admission}
 use Rattle.refusal.specs.declared.Admission.the-variants as admission
 use Rattle.refusal.specs.declared.Done.the-variants.{Bytes, Refused}
-use Rattle.refusal.specs.Order.{firstOf}
 use Rattle.refusal.specs.Delivery.{delivery}
 use Rattle.refusal.proofs.Delivery.{delivers-refusal, delivers-eleven, delivers-bytes}
 use Rattle.board.specs.Supply.{supplied}

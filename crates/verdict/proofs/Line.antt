@@ -1,14 +1,10 @@
 -- Writing the line: a field from its last digit on, then the fields one behind the other. Assumes nothing.
 use mathlib.Core.Path.{_≡_, refl, ap, ap₂, _∙_, sym}
-use mathlib.Core.List.{List, [], _∷_, _++_, append-assoc}
-use Prim.Native.Nat.{ℕ, suc, _+_, _-_, _/_, _%_, _≤_, _<_}
-use native.Mathlib.Nat.{add-zero}
+use mathlib.Core.List.{List, [], _++_, append-assoc}
+use Prim.Native.Nat.{ℕ, _+_, _-_, _≤_, _<_}
 use native.Mathlib.Omega.{arith}
-use lib.ListN.{length, take, drop, set, length-append}
-use borrow.Author.Tests.{lt-leb}
-use lib.Seq.{drop-cons, take-set-le, drop-set-add}
+use lib.ListN.{length, length-append}
 use Rattle.laws.specs.Bytes.{put}
-use Rattle.laws.proofs.Bytes.{sets-put}
 use Rattle.laws.proofs.Append.{put-behind}
 use Rattle.refusal.specs.declared.Refusal.the-variants.{Output}
 use Rattle.refusal.specs.declared.Done.the-variants.{Bytes, Refused}
@@ -19,7 +15,6 @@ use Rattle.verdict.specs.declared.Verdict.{Verdict}
 use Rattle.verdict.specs.declared.Verdict.the-variants as verdict
 use Rattle.decimal.specs.Decimal.{decimalOf}
 use Rattle.verdict.specs.Report.{inFields, tab, lineFeed, reportLine}
-use Rattle.decimal.proofs.Decimal.{one-digit, last-digit, digits-more}
 
 word-length : (v : Verdict) → length (inFields v .word ++ tab) ≡ 7
 word-length verdict.Pass = refl

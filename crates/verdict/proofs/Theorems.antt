@@ -9,7 +9,6 @@ use borrow.Author.Tests.{eq-eqb, ne-eqb, eqb-true, lt-ltb, le-ltb, not-false}
 use Rattle.laws.proofs.Split.{by-eq, by-lt}
 use Rattle.board.specs.Layout.{flashFirst, flashBytes}
 use Rattle.refusal.specs.declared.Refusal.{Refusal}
-use Rattle.refusal.specs.declared.Admission.{Admission}
 use Rattle.refusal.specs.declared.Admission.the-variants as admission
 use Rattle.refusal.specs.declared.Done.{Done}
 use Rattle.job.specs.Event.{Event}
