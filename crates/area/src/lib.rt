@@ -12,7 +12,7 @@ ghost use Rattle.board.specs.Protection.{anyProtected};
 ghost use Rattle.request.specs.Request.{transferBytes};
 ghost use Rattle.request.specs.Setup.{dataLength};
 ghost use Rattle.device.specs.WellFormed.{wellFormed};
-ghost use Rattle.loader.specs.Perform.{endOf, countOf};
+ghost use Rattle.loader.specs.Inner.{endOf, countOf};
 ghost use Rattle.memory.specs.Flash.{each, stored};
 ghost use Rattle.memory.specs.Whole.{unprotected};
 ghost use Rattle.decision.specs.Decide.{commandOf, decideOf, isStatus};

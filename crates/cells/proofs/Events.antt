@@ -15,7 +15,7 @@ use Rattle.laws.proofs.Split.{and-right-false}
 use Rattle.board.specs.Layout.{optionsFrom, memoryBytes}
 use Rattle.board.specs.Protection.{readProtected}
 use Rattle.request.specs.declared.Request.the-variants.{Download}
-use Rattle.request.specs.Request.{transferBytes, requestOf}
+use Rattle.request.specs.Request.{transferBytes, requestOf, isGetStatus}
 use Rattle.request.specs.Setup.{setupOf, dataLength, fitsOf}
 use Rattle.request.proofs.Known.{download-brings}
 use Rattle.request.proofs.Lengths.{fits-data}
@@ -37,11 +37,12 @@ use Rattle.action.specs.Access.{blockAccess}
 use Rattle.loader.specs.declared.Event.the-variants as event
 use Rattle.loader.specs.declared.Answer.the-variants.{Accepted}
 use Rattle.loader.specs.Answer.{Outcome, outcome}
-use Rattle.loader.specs.Serve.{InOrder, runOf, statusBytes, statusOf, readAt, uploadedOf, commandCodes, actedOf, serveOf}
+use Rattle.loader.specs.Inner.{InOrder}
+use Rattle.loader.specs.Serve.{runOf, statusBytes, statusOf, readAt, uploadedOf, commandCodes, actedOf, serveOf}
 use Rattle.loader.specs.Step.{sizesOf, stepOf}
 use Rattle.loader.proofs.Admitted.{step-attaches, step-serves, admit-all, in-order-admitted}
 use Rattle.job.specs.Event.{Event, attach, request}
-use Rattle.verdict.specs.World.{World, worldOf, steppedOf, fails, asksStatus, isGetStatus}
+use Rattle.verdict.specs.World.{World, worldOf, steppedOf, fails, asksStatus}
 use Rattle.cells.specs.Cells.{known, blockFrom, blockOf, falls, goes, readMoves, readsMoves, statusMoves, decisionMoves, requestMoves, moves}
 use Rattle.cells.proofs.Likeness.{Alike}
 use Rattle.cells.proofs.Learnt.{put-outside}

@@ -26,7 +26,8 @@ use Rattle.action.specs.declared.Access.{Access}
 use Rattle.action.specs.declared.Access.the-variants.{Denied, InFlash, InRam, InOptions}
 use Rattle.action.specs.Access.{blockAccess}
 use Rattle.action.specs.Action.{storeAt, eraseAt, actionIn, actionOf, ranOf}
-use Rattle.loader.specs.Perform.{performedOf, countOf}
+use Rattle.loader.specs.Inner.{countOf}
+use Rattle.loader.specs.Perform.{performedOf}
 use Rattle.loader.specs.Serve.{Run, run, runOf}
 use Rattle.loader.proofs.Bounds.{Fits, action-fits}
 use Rattle.cells.specs.Cells.{falls, goes, blockOf, workedOf, reports, statusMoves}

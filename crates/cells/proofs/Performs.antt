@@ -15,7 +15,8 @@ use Rattle.request.specs.Request.{transferBytes}
 use Rattle.action.specs.declared.Action.{Action}
 use Rattle.action.specs.declared.Action.the-variants.{Rest, Fail, Point, Erase, EraseAll, Unprotect, ClearRam, StoreFlash, StoreRam, StoreOptions}
 use Rattle.memory.specs.Flash.{blank}
-use Rattle.loader.specs.Perform.{performedOf, countOf}
+use Rattle.loader.specs.Inner.{countOf}
+use Rattle.loader.specs.Perform.{performedOf}
 use Rattle.loader.proofs.Bounds.{Fits}
 use Rattle.cells.specs.Cells.{learnt, blockFrom, surely, blockOf, writes, workedOf}
 use Rattle.cells.proofs.Likeness.{Alike, learnt-alike}

@@ -1,15 +1,14 @@
 -- Which requests come to Status. Assumes nothing.
 use mathlib.Core.Path.{_≡_, refl, ap, _∙_, sym}
-use native.Mathlib.Omega.{arith}
 use mathlib.Core.Bool.{Bool, true, false, cond, false≢true}
 use Rattle.request.specs.declared.Setup.{Setup}
 use Rattle.request.specs.declared.Request.{Request}
 use Rattle.request.specs.declared.Request.the-variants.{Download, Upload, GetStatus, ClearStatus, GetState, Abort, Unknown}
-use Rattle.request.specs.Request.{requestOf}
+use Rattle.request.specs.Request.{requestOf, isGetStatus}
 use Rattle.device.specs.declared.Mode.{Mode}
 use Rattle.device.specs.declared.Mode.the-variants.{Idle, DownloadSync, DownloadBusy, DownloadIdle, ManifestSync, UploadIdle, Error, Left, Rebooting}
 use Rattle.device.specs.declared.Device.{Device}
-use Rattle.device.specs.Table.{allowedOf, rowOf}
+use Rattle.device.specs.Table.{allowedOf}
 use Rattle.decision.specs.declared.Command.{Command}
 use Rattle.decision.specs.declared.Decision.{Decision}
 use Rattle.decision.specs.declared.Decision.the-variants.{Silent, Stall, Accept, Take, Commands, Read, State, Status}
@@ -62,15 +61,15 @@ module _ (d : Device) (s : Setup) (k : Command) where
         status = λ t. absurd (differs (t .asked));
       })
 
--- by the request that the setup asks for, which the row of the table tells from GETSTATUS
+-- by the request that the setup asks for
 pub status-decided : (d : Device) (s : Setup) (k : Command) (r : Request) → r ≡ requestOf s → askedIn r (d .mode) ≡ isStatus (decideOf d s k)
 status-decided d s k GetStatus e = sym (taken d s k (sym e))
-status-decided d s k Download e = sym (other d s k (λ g. let z : 0 ≡ 2 = ap rowOf (e ∙ g) in absurd (omega arith)))
-status-decided d s k Upload e = sym (other d s k (λ g. let z : 1 ≡ 2 = ap rowOf (e ∙ g) in absurd (omega arith)))
-status-decided d s k ClearStatus e = sym (other d s k (λ g. let z : 3 ≡ 2 = ap rowOf (e ∙ g) in absurd (omega arith)))
-status-decided d s k GetState e = sym (other d s k (λ g. let z : 4 ≡ 2 = ap rowOf (e ∙ g) in absurd (omega arith)))
-status-decided d s k Abort e = sym (other d s k (λ g. let z : 5 ≡ 2 = ap rowOf (e ∙ g) in absurd (omega arith)))
-status-decided d s k Unknown e = sym (other d s k (λ g. let z : 6 ≡ 2 = ap rowOf (e ∙ g) in absurd (omega arith)))
+status-decided d s k Download e = sym (other d s k (λ g. absurd (false≢true (ap isGetStatus (e ∙ g)))))
+status-decided d s k Upload e = sym (other d s k (λ g. absurd (false≢true (ap isGetStatus (e ∙ g)))))
+status-decided d s k ClearStatus e = sym (other d s k (λ g. absurd (false≢true (ap isGetStatus (e ∙ g)))))
+status-decided d s k GetState e = sym (other d s k (λ g. absurd (false≢true (ap isGetStatus (e ∙ g)))))
+status-decided d s k Abort e = sym (other d s k (λ g. absurd (false≢true (ap isGetStatus (e ∙ g)))))
+status-decided d s k Unknown e = sym (other d s k (λ g. absurd (false≢true (ap isGetStatus (e ∙ g)))))
 
 pub only-status : (x : Decision) → isStatus x ≡ true → x ≡ Status
 only-status Silent e = absurd (false≢true e)

@@ -2,3 +2,4 @@ pub mod Wire
 pub mod Table
 pub mod State
 pub mod WellFormed
+pub mod Columns

@@ -6,7 +6,6 @@ use lib.Dec.{eqb}
 use Rattle.request.specs.declared.Request.{Request}
 use Rattle.request.specs.declared.Request.the-variants.{Download, Upload, GetStatus, ClearStatus, GetState, Abort, Unknown}
 use Rattle.device.specs.declared.Mode.{Mode}
-use Rattle.device.specs.declared.Mode.the-variants.{Idle, DownloadSync, DownloadBusy, DownloadIdle, ManifestSync, UploadIdle, Error, Left, Rebooting}
 use Rattle.device.specs.Wire.{wireOf}
 
 -- column "Modes", by wire numbers; "All else .. stalls"
@@ -27,25 +26,3 @@ listed x (y ∷ ys) = eqb x y || listed x ys
 -- a request is taken in a mode whose number is in its row
 unfoldable pub allowedOf : Request → Mode → Bool
 allowedOf request mode = listed (wireOf mode) (modesOf request)
-
--- "a constant table of numbers, by request and mode": the requests in the order of the rows
-abbrev pub rowOf : Request → ℕ
-rowOf Download = 0
-rowOf Upload = 1
-rowOf GetStatus = 2
-rowOf ClearStatus = 3
-rowOf GetState = 4
-rowOf Abort = 5
-rowOf Unknown = 6
-
--- the modes in the order of the columns
-abbrev pub columnOf : Mode → ℕ
-columnOf Idle = 0
-columnOf DownloadSync = 1
-columnOf DownloadBusy = 2
-columnOf DownloadIdle = 3
-columnOf ManifestSync = 4
-columnOf UploadIdle = 5
-columnOf Error = 6
-columnOf Left = 7
-columnOf Rebooting = 8

@@ -13,7 +13,8 @@ use Rattle.laws.specs.Bytes.{put}
 use Rattle.laws.proofs.Bytes.{sets-turn, sets-end, sets-put}
 use Rattle.laws.proofs.Split.{by-lt, and-true, and-right-false, and-right-true}
 use Rattle.laws.specs.Lists.{allBytes}
-use Rattle.hex.specs.Hex.{valueOf, digitOf, byteOf, faultOf, allDigits, bytesOf, hexOf}
+use Rattle.hex.specs.Ways.{faultOf}
+use Rattle.hex.specs.Hex.{valueOf, digitOf, byteOf, allDigits, bytesOf, hexOf}
 use Rattle.hex.proofs.OneDigit.{value-digit, byte-digits, byte-high, byte-low, byte-small, fault-none, fault-one}
 
 pub hex-length : (xs : List ℕ) → length (hexOf xs) ≡ length xs * 2

@@ -6,7 +6,8 @@ use native.Mathlib.Omega.{arith}
 use lib.Dec.{leb}
 use borrow.Author.Tests.{le-leb, lt-leb, lt-ltb, le-ltb}
 use Rattle.laws.proofs.Split.{by-lt, and-right-false}
-use Rattle.hex.specs.Hex.{valueOf, digitOf, byteOf, faultOf}
+use Rattle.hex.specs.Ways.{faultOf}
+use Rattle.hex.specs.Hex.{valueOf, digitOf, byteOf}
 
 value-low : (d : ℕ) → 48 ≤ d → d < 58 → valueOf d ≡ d - 48
 unfolding valueOf

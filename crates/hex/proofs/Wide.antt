@@ -9,7 +9,8 @@ use lib.ListN.{length, drop, getD, drop-of-length-le}
 use lib.Seq.{drop-cons}
 use lib.Pow.{pow-pos, pow-mono, split, shr-shr, mod-mod-pow, ones-lt}
 use lib.Bits.{bitAnd, and-block, and-mask}
-use Rattle.hex.specs.Hex.{valueOf, byteOf, allDigits, bytesOf, joinedOf}
+use Rattle.hex.specs.Ways.{joinedOf}
+use Rattle.hex.specs.Hex.{valueOf, byteOf, allDigits, bytesOf}
 use Rattle.hex.proofs.OneDigit.{half-value}
 use Rattle.hex.proofs.Fields.{digits-cons}
 

@@ -16,10 +16,6 @@ digitOf x = cond (ltb (x % 16) 10) (x % 16 + 48) (x % 16 + 55)
 unfoldable pub byteOf : ℕ → ℕ → ℕ
 byteOf high low = valueOf high * 16 + valueOf low
 
--- 0 for a digit, 1 for any other byte
-unfoldable pub faultOf : ℕ → ℕ
-faultOf d = cond (ltb (valueOf d) 16) 0 1
-
 -- every byte of a field is a digit
 unfoldable pub allDigits : List ℕ → Bool
 allDigits [] = true
@@ -30,11 +26,6 @@ unfoldable pub bytesOf : List ℕ → List ℕ
 bytesOf [] = []
 bytesOf (d ∷ []) = []
 bytesOf (d ∷ e ∷ ds) = byteOf d e ∷ bytesOf ds
-
--- how the code takes eight digits at once: bytes as one number, the first the lowest; no rule of the paper goes by it
-unfoldable pub joinedOf : List ℕ → ℕ
-joinedOf [] = 0
-joinedOf (x ∷ xs) = joinedOf xs * 256 + x
 
 -- the field that spells some bytes
 unfoldable pub hexOf : List ℕ → List ℕ

@@ -6,7 +6,8 @@ ghost use Prim.Native.Nat.{_+_, _*_, _/_, _≤_, _<_};
 ghost use lib.Dec.{ltb};
 ghost use lib.ListN.{length};
 ghost use Rattle.laws.specs.Bytes.{put};
-ghost use Rattle.hex.specs.Hex.{valueOf, digitOf, byteOf, faultOf, allDigits, bytesOf, joinedOf, hexOf};
+ghost use Rattle.hex.specs.Ways.{faultOf, joinedOf};
+ghost use Rattle.hex.specs.Hex.{valueOf, digitOf, byteOf, allDigits, bytesOf, hexOf};
 
 // The digit of the low half of a byte.
 pub fn digit(byte: u8) -> u8

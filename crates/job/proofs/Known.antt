@@ -11,7 +11,8 @@ use Rattle.request.specs.Setup.{setupOf, dataLength}
 use Rattle.request.specs.declared.Setup.{Setup}
 use Rattle.hex.specs.Hex.{allDigits, bytesOf}
 use Rattle.job.specs.declared.Item.the-variants as item
-use Rattle.job.specs.Text.{firstLine, wellSpelled, lineLength}
+use Rattle.job.specs.Ways.{lineLength}
+use Rattle.job.specs.Text.{firstLine, wellSpelled}
 use Rattle.job.specs.Calls.{itemOf}
 use Rattle.job.proofs.Formed.{Asks, asks, asks-size, asks-length, asks-digits, asks-data}
 use Rattle.job.proofs.LineLength.{length-good, attaches}

@@ -10,7 +10,8 @@ use Rattle.laws.specs.Bytes.{put}
 use Rattle.laws.proofs.Bytes.{sets-put, rest-is}
 use Rattle.laws.proofs.Append.{sets-append}
 use Rattle.job.specs.Event.{Event, packOf, packedOf}
-use Rattle.job.specs.Text.{firstLine, eventOf, wellSpelled, lineLength, packedSize, firstBad, eventsOf}
+use Rattle.job.specs.Ways.{lineLength, packedSize}
+use Rattle.job.specs.Text.{firstLine, eventOf, wellSpelled, firstBad, eventsOf}
 use Rattle.job.proofs.LineLength.{length-good}
 use Rattle.job.proofs.Walking.{size-packed, turn-packed, turn-total}
 use Rattle.job.proofs.WalkEvents.{Beyond, formed-here, beyond-here, events-end}

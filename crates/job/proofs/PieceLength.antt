@@ -13,7 +13,8 @@ use Rattle.laws.proofs.Split.{by-bool, by-lt, and-right-false, and-right-true}
 use Rattle.request.specs.Setup.{setupOf, dataLength, fitsOf}
 use Rattle.laws.specs.Lists.{same}
 use Rattle.job.specs.Event.{fits, packOf}
-use Rattle.job.specs.Packed.{pieceSize, firstPiece, eventIn, wellPacked, pieceLength}
+use Rattle.job.specs.Ways.{pieceLength}
+use Rattle.job.specs.Packed.{pieceSize, firstPiece, eventIn, wellPacked}
 use Rattle.laws.proofs.Lists.{same-refl}
 use Rattle.job.proofs.Formed.{fits-if, setup-front}
 

@@ -14,7 +14,8 @@ use Rattle.laws.proofs.Split.{by-lt}
 use Rattle.request.specs.Setup.{fitsOf}
 use Rattle.request.proofs.Lengths.{fits-eight}
 use Rattle.job.specs.Event.{Event, attach, request, fits, lineOf, textOf}
-use Rattle.job.specs.Packed.{pieceSize, firstPiece, piecesAfter, eventIn, wellPacked, pieceLength, eventsAmong, packs, unpacked}
+use Rattle.job.specs.Ways.{pieceLength}
+use Rattle.job.specs.Packed.{pieceSize, firstPiece, piecesAfter, eventIn, wellPacked, eventsAmong, packs, unpacked}
 use Rattle.job.proofs.EventPacked.{well-fits}
 use Rattle.job.proofs.SpellSize.{turn-broken, well, piece-is, turn-packs, turn-text}
 use Rattle.job.proofs.SpellLine.{attach-spelled, attach-fits}

@@ -15,8 +15,8 @@ use Rattle.request.proofs.Lengths.{fits-eight}
 use Rattle.refusal.specs.declared.Done.the-variants.{Bytes, Refused}
 use Rattle.job.specs.Event.{Event, attach, request, fits, lineOf, textOf, packOf}
 use Rattle.job.specs.Text.{limit}
-use Rattle.job.specs.Packed.{pieceSize, firstPiece, piecesAfter, eventIn, wellPacked, pieceLength, lineSize, capped, allPacked, eventsAmong, packs, unpacked}
-use Rattle.job.specs.Calls.{sizeOf}
+use Rattle.job.specs.Ways.{pieceLength, lineSize, capped, sizeOf}
+use Rattle.job.specs.Packed.{pieceSize, firstPiece, piecesAfter, eventIn, wellPacked, allPacked, eventsAmong, packs, unpacked}
 use Rattle.hex.specs.Hex.{hexOf}
 use Rattle.hex.proofs.Fields.{hex-length}
 use Rattle.job.proofs.Spelling.{spelled-size}

@@ -17,7 +17,8 @@ use Rattle.refusal.specs.declared.Refusal.the-variants.{Text, Line}
 use Rattle.refusal.specs.declared.Done.the-variants.{Bytes, Refused}
 use Rattle.job.specs.declared.Item.the-variants as item
 use Rattle.job.specs.Event.{Event, attach, request, packOf, packedOf}
-use Rattle.job.specs.Text.{limit, firstLine, linesOf, eventOf, wellSpelled, lineLength, packedSize, badFrom, firstBad, eventsIn, eventsOf}
+use Rattle.job.specs.Ways.{lineLength, packedSize}
+use Rattle.job.specs.Text.{limit, firstLine, linesOf, eventOf, wellSpelled, badFrom, firstBad, eventsIn, eventsOf}
 use Rattle.job.specs.Calls.{measureOf, itemFor, itemOf}
 use Rattle.job.proofs.FirstLine.{first-some, lines-first}
 use Rattle.job.proofs.Formed.{Asks, asks, asks-event, asks-length, asks-setup, asks-whole, asks-digits}

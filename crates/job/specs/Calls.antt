@@ -14,7 +14,7 @@ use Rattle.job.specs.declared.Item.{Item}
 use Rattle.job.specs.declared.Item.the-variants as item
 use Rattle.job.specs.Event.{Event, attach, request, textOf, packedOf}
 use Rattle.job.specs.Text.{limit, dataFrom, firstLine, eventOf, wellSpelled, firstBad, eventsOf}
-use Rattle.job.specs.Packed.{capped, packs, unpacked}
+use Rattle.job.specs.Packed.{packs, unpacked}
 
 -- rows 9 and 10
 abbrev pub textRefusals : List ℕ → List (Refusal × Bool)
@@ -38,10 +38,6 @@ packedRefusals p = (Request, not (packs p)) ∷ []
 -- "before 9 and 11": row 9 behind it
 abbrev pub writeRefusals : List ℕ → List (Refusal × Bool)
 writeRefusals p = packedRefusals p ++ ((Text, ltb limit (length (textOf (unpacked p)))) ∷ [])
-
--- how long the text of a packed list is, as far as the limit
-unfoldable pub sizeOf : List ℕ → Done
-sizeOf p = counted (firstOf (packedRefusals p)) (capped (length (textOf (unpacked p))))
 
 -- the text writer: 5, 9, 11
 unfoldable pub writeOf : List ℕ → List ℕ → Delivery

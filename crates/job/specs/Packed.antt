@@ -1,13 +1,12 @@
 -- A packed list, taken apart. Document 01, "Job text", last sentence, and "Refusal numbers", last sentence. Assumes nothing.
 use mathlib.Core.Bool.{Bool, true, cond, _&&_}
 use mathlib.Core.List.{List, [], _∷_}
-use Prim.Native.Nat.{ℕ, zero, suc, _+_, _-_, _*_}
-use lib.Dec.{eqb, ltb}
+use Prim.Native.Nat.{ℕ, zero, suc, _+_, _-_}
+use lib.Dec.{eqb}
 use lib.ListN.{length, take, drop, getD}
 use Rattle.request.specs.Setup.{setupOf, dataLength}
 use Rattle.laws.specs.Lists.{same}
 use Rattle.job.specs.Event.{Event, attach, request, fits, packOf}
-use Rattle.job.specs.Text.{limit}
 
 -- how many bytes the event at the front of a packed list asks for: "whose length follows from the setup"
 unfoldable pub pieceSize : List ℕ → ℕ
@@ -30,18 +29,6 @@ eventIn l = cond (eqb (getD l 0 0) 0) attach (request (drop 1 l))
 -- "another kind byte or one that ends inside an event" is not well packed
 unfoldable pub wellPacked : List ℕ → Bool
 wellPacked l = fits (eventIn l) && same l (packOf (eventIn l))
-
--- how many bytes the first event takes; 0 where it is not well packed
-unfoldable pub pieceLength : List ℕ → ℕ
-pieceLength p = cond (wellPacked (firstPiece p)) (length (firstPiece p)) 0
-
--- how long the line of a well-packed event of n bytes is
-unfoldable pub lineSize : ℕ → ℕ
-lineSize n = cond (ltb n 9) 2 (n * 2 + 2)
-
--- a length, or just over the limit where it is over the limit
-unfoldable pub capped : ℕ → ℕ
-capped n = cond (ltb limit n) (limit + 1) n
 
 -- each of some pieces is a whole event
 unfoldable pub allPacked : List (List ℕ) → Bool

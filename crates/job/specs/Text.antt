@@ -1,8 +1,8 @@
 -- The lines of a text, and the first that is malformed. Document 01, "Job text" and "Refusal numbers", row 10. Assumes nothing.
 use mathlib.Core.Bool.{Bool, cond, _&&_}
 use mathlib.Core.List.{List, [], _∷_, _++_}
-use Prim.Native.Nat.{ℕ, suc, _-_, _/_}
-use lib.Dec.{eqb, ltb}
+use Prim.Native.Nat.{ℕ, suc, _-_}
+use lib.Dec.{eqb}
 use lib.ListN.{length, take, drop, getD}
 use Rattle.hex.specs.Hex.{bytesOf}
 use Rattle.laws.specs.Lists.{same}
@@ -38,14 +38,6 @@ eventOf l = cond (eqb (getD l 0 0) 65) attach (request (bytesOf (take 16 (drop 2
 -- a line is well formed where it is the line of the event that it spells, and "the data must have the length the event rule asks"
 unfoldable pub wellSpelled : List ℕ → Bool
 wellSpelled l = fits (eventOf l) && same l (lineOf (eventOf l))
-
--- how long the first line of a text is; 0 where it is malformed
-unfoldable pub lineLength : List ℕ → ℕ
-lineLength t = cond (wellSpelled (firstLine t)) (length (firstLine t)) 0
-
--- how many packed bytes the event of a well-formed line of n bytes takes
-unfoldable pub packedSize : ℕ → ℕ
-packedSize n = cond (ltb n 20) 1 (n / 2 - 1)
 
 -- row 10: of lines that are counted from k on, the number of the first malformed one; 0 where there is none
 unfoldable pub badFrom : ℕ → List (List ℕ) → ℕ

@@ -10,10 +10,11 @@ ghost use Rattle.laws.specs.Bytes.{put};
 ghost use Rattle.request.specs.Setup.{setupOf, dataLength};
 ghost use Rattle.hex.specs.Hex.{valueOf, byteOf, allDigits, bytesOf};
 ghost use Rattle.job.specs.Event.{request, lineOf, textOf, packOf, packedOf};
-ghost use Rattle.job.specs.Text.{limit, firstLine, eventOf, wellSpelled, lineLength, packedSize, firstBad, eventsOf};
-ghost use Rattle.job.specs.Packed.{pieceLength, lineSize, capped, eventIn, wellPacked, packs, unpacked};
+ghost use Rattle.job.specs.Ways.{lineLength, packedSize, pieceLength, lineSize, capped, sizeOf};
+ghost use Rattle.job.specs.Text.{limit, firstLine, eventOf, wellSpelled, firstBad, eventsOf};
+ghost use Rattle.job.specs.Packed.{eventIn, wellPacked, packs, unpacked};
 ghost use Rattle.refusal.specs.Delivery.{inNumbers, delivery};
-ghost use Rattle.job.specs.Calls.{measureOf, readOf, sizeOf, writeOf, itemOf};
+ghost use Rattle.job.specs.Calls.{measureOf, readOf, writeOf, itemOf};
 
 // What stands at a place of a text: its end, a malformed line, or an event with the place of the line after it.
 pub enum Item {

@@ -20,7 +20,8 @@ use Rattle.loader.specs.declared.Event.the-variants as event
 use Rattle.loader.specs.declared.Answer.the-variants.{Accepted}
 use Rattle.loader.specs.declared.Sizes.{Sizes}
 use Rattle.loader.specs.Answer.{outcome}
-use Rattle.loader.specs.Serve.{InOrder, serveOf}
+use Rattle.loader.specs.Inner.{InOrder}
+use Rattle.loader.specs.Serve.{serveOf}
 use Rattle.loader.specs.Step.{misfits, stepRefusals, sizesOf, admittedOf, steps, stepOf}
 
 module _ (n : ℕ) (d : Device) (e : Event) (q m b y : List ℕ) (made : Admission) (is : made ≡ admittedOf n d e q (sizesOf m b y)) where

@@ -27,7 +27,7 @@ use Rattle.action.specs.declared.Action.{Action}
 use Rattle.action.specs.Access.{blockAccess}
 use Rattle.action.specs.Action.{pointOf, eraseAt, eraseOf, storeAt, actionIn, actionOf}
 use Rattle.action.proofs.Spans.{Granted, block-granted}
-use Rattle.loader.specs.Perform.{endOf, countOf}
+use Rattle.loader.specs.Inner.{endOf, countOf}
 
 -- an action that ends within memory and takes no more than a transfer
 pub record Fits (n : ℕ) (action : Action) : Type 0 where

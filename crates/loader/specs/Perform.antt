@@ -1,10 +1,9 @@
 -- What an action does to memory. Document 01, the paragraphs from "Read and write checks" to "Read unprotect". Assumes nothing.
 use mathlib.Core.Bool.{cond}
 use mathlib.Core.List.{List}
-use Prim.Native.Nat.{ℕ, _+_, _*_}
+use Prim.Native.Nat.{ℕ}
 use lib.ListN.{length, take}
 use Rattle.laws.specs.Bytes.{put}
-use Rattle.board.specs.Layout.{pageBytes}
 use Rattle.board.specs.Protection.{wordOf}
 use Rattle.device.specs.Wire.{errWRITE}
 use Rattle.action.specs.declared.Action.{Action}
@@ -37,29 +36,3 @@ performedOf n ClearRam b m = performed 0 (ramCleared n m)
 performedOf n (StoreFlash at count) b m = writtenOf (wordOf n m) at (take count b) m
 performedOf n (StoreRam at count) b m = performed 0 (put at (take count b) m)
 performedOf n (StoreOptions at count) b m = performed 0 (put at (take count b) m)
-
--- where in the memory buffer an action ends
-abbrev pub endOf : Action → ℕ
-endOf Rest = 0
-endOf (Fail status) = 0
-endOf (Point address) = 0
-endOf (Erase page) = (page + 1) * pageBytes
-endOf EraseAll = 0
-endOf Unprotect = 0
-endOf ClearRam = 0
-endOf (StoreFlash at count) = at + count
-endOf (StoreRam at count) = at + count
-endOf (StoreOptions at count) = at + count
-
--- how many bytes of the block buffer an action takes
-abbrev pub countOf : Action → ℕ
-countOf Rest = 0
-countOf (Fail status) = 0
-countOf (Point address) = 0
-countOf (Erase page) = 0
-countOf EraseAll = 0
-countOf Unprotect = 0
-countOf ClearRam = 0
-countOf (StoreFlash at count) = count
-countOf (StoreRam at count) = count
-countOf (StoreOptions at count) = count

@@ -1,23 +1,19 @@
 -- A request that a loader in order takes. Document 01, "Events", "GETSTATUS", "UPLOAD". Assumes nothing.
-use mathlib.Core.Path.{_≡_}
-use mathlib.Core.Bool.{cond, true}
+use mathlib.Core.Bool.{cond}
 use mathlib.Core.List.{List, [], _∷_}
 use Prim.Native.Nat.{ℕ}
 use lib.Dec.{eqb}
 use lib.ListN.{length, take, drop}
 use Rattle.laws.specs.Bytes.{put}
-use Rattle.board.specs.Layout.{memoryBytes}
 use Rattle.board.specs.Protection.{readProtected}
 use Rattle.request.specs.declared.Setup.{Setup}
-use Rattle.request.specs.Request.{transferBytes}
-use Rattle.request.specs.Setup.{setupOf, fitsOf}
+use Rattle.request.specs.Setup.{setupOf}
 use Rattle.device.specs.declared.Device.{Device}
 use Rattle.device.specs.declared.Mode.the-variants.{UploadIdle}
 use Rattle.device.specs.declared.Ran.{Ran}
 use Rattle.device.specs.declared.Report.{Report}
 use Rattle.device.specs.Wire.{wireOf, isMode}
 use Rattle.device.specs.State.{entered, stalled, afterStatus, reportOf, nothingRan}
-use Rattle.device.specs.WellFormed.{wellFormed}
 use Rattle.decision.specs.declared.Decision.{Decision}
 use Rattle.decision.specs.declared.Decision.the-variants as decided
 use Rattle.decision.specs.Decide.{commandOf, decideOf}
@@ -83,14 +79,6 @@ uploadedOf n d s m b y = readAt (blockAccess n (readProtected n m) (s .value) (s
 -- "00 21 41 92"
 abbrev pub commandCodes : List ℕ
 commandCodes = 0x00 ∷ 0x21 ∷ 0x41 ∷ 0x92 ∷ []
-
--- a call that no refusal stops
-pub record InOrder (n : ℕ) (d : Device) (q m b y : List ℕ) : Type 0 where
-  pub memory : length m ≡ memoryBytes n
-  pub block : length b ≡ transferBytes
-  pub reply : length y ≡ transferBytes
-  pub device : wellFormed n d ≡ true
-  pub request : fitsOf q ≡ true
 
 -- what a decision comes to; q is the request, and "the data stage is the part of the event after its eighth byte"
 abbrev pub actedOf : Decision → ℕ → Device → List ℕ → List ℕ → List ℕ → List ℕ → Outcome

@@ -1,5 +1,5 @@
 -- Which request a setup asks for. Document 01, "Events", the table of requests, without its last column. Assumes nothing.
-use mathlib.Core.Bool.{Bool, cond, _&&_}
+use mathlib.Core.Bool.{Bool, cond, _&&_, true, false}
 use Prim.Native.Nat.{ℕ}
 use lib.Dec.{eqb, leb}
 use Rattle.request.specs.declared.Setup.{Setup}
@@ -35,3 +35,13 @@ inwardOf s =
 -- columns "Type, code" and "Fields", and "wIndex is 0"
 unfoldable pub requestOf : Setup → Request
 requestOf s = cond (eqb (s .index) 0) (cond (eqb (s .kind) 0x21) (outwardOf s) (cond (eqb (s .kind) 0xA1) (inwardOf s) Unknown)) Unknown
+
+-- the request is a GETSTATUS
+abbrev pub isGetStatus : Request → Bool
+isGetStatus Download = false
+isGetStatus Upload = false
+isGetStatus GetStatus = true
+isGetStatus ClearStatus = false
+isGetStatus GetState = false
+isGetStatus Abort = false
+isGetStatus Unknown = false

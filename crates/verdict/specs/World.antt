@@ -7,8 +7,7 @@ use lib.Dec.{eqb}
 use lib.ListN.{length, drop, getD}
 use Rattle.board.specs.Layout.{memoryBytes, optionsFrom}
 use Rattle.request.specs.declared.Request.{Request}
-use Rattle.request.specs.declared.Request.the-variants.{Download, Upload, GetStatus, ClearStatus, GetState, Abort, Unknown}
-use Rattle.request.specs.Request.{transferBytes, requestOf}
+use Rattle.request.specs.Request.{transferBytes, requestOf, isGetStatus}
 use Rattle.request.specs.Setup.{setupOf}
 use Rattle.device.specs.declared.Device.{Device}
 use Rattle.device.specs.State.{started}
@@ -47,16 +46,6 @@ worldOf o = record { device = o .device; memory = o .memory; block = o .block; r
 unfoldable pub after : ℕ → List Event → World → World
 after n [] w = w
 after n (e ∷ es) w = after n es (worldOf (steppedOf n w e))
-
--- the request is a GETSTATUS
-abbrev pub isGetStatus : Request → Bool
-isGetStatus Download = false
-isGetStatus Upload = false
-isGetStatus GetStatus = true
-isGetStatus ClearStatus = false
-isGetStatus GetState = false
-isGetStatus Abort = false
-isGetStatus Unknown = false
 
 -- the event is a GETSTATUS
 abbrev pub asksStatus : Event → Bool

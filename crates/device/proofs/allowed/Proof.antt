@@ -1,6 +1,6 @@
 -- `device::allowed` meets its contract. Assumes nothing.
 use Rattle.device.proofs.Table.{row-is, no-row, column-below}
-use Rattle.device.specs.Table.{rowOf}
+use Rattle.device.specs.Columns.{rowOf}
 use native.Mathlib.Omega.{arith}
 use mathlib.Core.Path.{ap, sym, _∙_}
 use borrow.Author.Needs.{needs}

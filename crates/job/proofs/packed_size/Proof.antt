@@ -1,5 +1,5 @@
 -- `job::packed_size` meets its contract. Assumes nothing.
-use Rattle.job.specs.Text.{packedSize}
+use Rattle.job.specs.Ways.{packedSize}
 use borrow.Author.Tests.{lt-ltb, le-ltb}
 use native.Mathlib.Omega.{arith}
 use borrow.Author.Needs.{needs}

@@ -1,7 +1,8 @@
 -- `job::spelled_size` meets its contract. Assumes nothing.
 use native.Mathlib.Omega.{arith}
 use Rattle.job.proofs.SpellSize.{turn-broken, turn-packs, turn-capped, size-broken, size-end}
-use Rattle.job.specs.Packed.{capped, packs, unpacked}
+use Rattle.job.specs.Ways.{capped}
+use Rattle.job.specs.Packed.{packs, unpacked}
 use Rattle.job.specs.Text.{limit}
 use Rattle.job.specs.Event.{textOf}
 use lib.ListN.{length, drop}
