@@ -3,7 +3,11 @@
 // Each function gives the place behind what it wrote. What finds no room is left out, so that no
 // caller has to reckon how long a line becomes.
 ghost use mathlib.Core.Path.{_≡_};
+ghost use mathlib.Core.Bool.{cond};
+ghost use Prim.Native.Nat.{_≤_};
+ghost use lib.Dec.{eqb};
 ghost use Rattle.decimal.specs.Decimal.{decimalOf};
+ghost use Rattle.words.specs.Names.{namesLength, partOf};
 ghost use Rattle.words.specs.Words.{left, saidOf, requestName, modeName, statusName, highFirst, addressOf};
 use device::Device;
 use device::Mode;
@@ -28,18 +32,62 @@ pub fn say(text: &[u8], out: &mut [u8], at: usize) -> usize
     at + text.len()
 }
 
+// Where a name stands in the text of all names. The arms that find it give numbers and no text: what the prover
+// walks grows with the arms times all that is alive in them.
+struct Part {
+    from: usize,
+    to: usize,
+}
+
+// The part of the text of all names from place `from` up to place `to`.
+fn say_part(from: usize, to: usize, out: &mut [u8], at: usize) -> usize
+    requires { ⌜ (from ≤ to) × (to ≤ namesLength) ⌝ }
+    ensures { λ r. ⌜ left r (now (out .exit)) ≡ saidOf (partOf from to) (now (out .entry)) at ⌝ }
+{
+    let names = *b"\
+        dfuIDLE|dfuDNLOAD-SYNC|dfuDNBUSY|dfuDNLOAD-IDLE|dfuMANIFEST-SYNC|dfuUPLOAD-IDLE|dfuERROR|left|rebooting|\
+        DNLOAD|UPLOAD|GETSTATUS|CLRSTATUS|GETSTATE|ABORT|a request that the loader does not know|\
+        OK|errTARGET|errWRITE|errVENDOR|errSTALLEDPKT|";
+    say(&names[from..to], out, at)
+}
+
+// Where the request's name stands.
+fn request_part(request: Request) -> Part
+    ensures { λ r. ⌜ (r .from ≤ r .to) × (r .to ≤ namesLength) × (partOf (r .from) (r .to) ≡ requestName request) ⌝ }
+{
+    match request {
+        Request::Download => Part { from: 104, to: 110 },
+        Request::Upload => Part { from: 111, to: 117 },
+        Request::GetStatus => Part { from: 118, to: 127 },
+        Request::ClearStatus => Part { from: 128, to: 137 },
+        Request::GetState => Part { from: 138, to: 146 },
+        Request::Abort => Part { from: 147, to: 152 },
+        Request::Unknown => Part { from: 153, to: 192 },
+    }
+}
+
 // The request's name.
 pub fn request(request: Request, out: &mut [u8], at: usize) -> usize
     ensures { λ r. ⌜ left r (now (out .exit)) ≡ saidOf (requestName request) (now (out .entry)) at ⌝ }
 {
-    match request {
-        Request::Download => say(b"DNLOAD", out, at),
-        Request::Upload => say(b"UPLOAD", out, at),
-        Request::GetStatus => say(b"GETSTATUS", out, at),
-        Request::ClearStatus => say(b"CLRSTATUS", out, at),
-        Request::GetState => say(b"GETSTATE", out, at),
-        Request::Abort => say(b"ABORT", out, at),
-        Request::Unknown => say(b"a request that the loader does not know", out, at),
+    let part = request_part(request);
+    say_part(part.from, part.to, out, at)
+}
+
+// Where the mode's name stands.
+fn mode_part(mode: Mode) -> Part
+    ensures { λ r. ⌜ (r .from ≤ r .to) × (r .to ≤ namesLength) × (partOf (r .from) (r .to) ≡ modeName mode) ⌝ }
+{
+    match mode {
+        Mode::Idle => Part { from: 0, to: 7 },
+        Mode::DownloadSync => Part { from: 8, to: 22 },
+        Mode::DownloadBusy => Part { from: 23, to: 32 },
+        Mode::DownloadIdle => Part { from: 33, to: 47 },
+        Mode::ManifestSync => Part { from: 48, to: 64 },
+        Mode::UploadIdle => Part { from: 65, to: 79 },
+        Mode::Error => Part { from: 80, to: 88 },
+        Mode::Left => Part { from: 89, to: 93 },
+        Mode::Rebooting => Part { from: 94, to: 103 },
     }
 }
 
@@ -47,16 +95,21 @@ pub fn request(request: Request, out: &mut [u8], at: usize) -> usize
 pub fn mode(mode: Mode, out: &mut [u8], at: usize) -> usize
     ensures { λ r. ⌜ left r (now (out .exit)) ≡ saidOf (modeName mode) (now (out .entry)) at ⌝ }
 {
-    match mode {
-        Mode::Idle => say(b"dfuIDLE", out, at),
-        Mode::DownloadSync => say(b"dfuDNLOAD-SYNC", out, at),
-        Mode::DownloadBusy => say(b"dfuDNBUSY", out, at),
-        Mode::DownloadIdle => say(b"dfuDNLOAD-IDLE", out, at),
-        Mode::ManifestSync => say(b"dfuMANIFEST-SYNC", out, at),
-        Mode::UploadIdle => say(b"dfuUPLOAD-IDLE", out, at),
-        Mode::Error => say(b"dfuERROR", out, at),
-        Mode::Left => say(b"left", out, at),
-        Mode::Rebooting => say(b"rebooting", out, at),
+    let part = mode_part(mode);
+    say_part(part.from, part.to, out, at)
+}
+
+// Where the status's name stands; up to 0 where the loader has no name for it.
+fn status_part(status: u8) -> Part
+    ensures { λ r. ⌜ (r .from ≤ r .to) × (r .to ≤ namesLength) × (cond (eqb (r .to) 0) (decimalOf status) (partOf (r .from) (r .to)) ≡ statusName status) ⌝ }
+{
+    match status {
+        0 => Part { from: 193, to: 195 },
+        Device::TARGET => Part { from: 196, to: 205 },
+        Device::WRITE => Part { from: 206, to: 214 },
+        Device::VENDOR => Part { from: 215, to: 224 },
+        Device::STALLED => Part { from: 225, to: 238 },
+        _ => Part { from: 0, to: 0 },
     }
 }
 
@@ -64,14 +117,11 @@ pub fn mode(mode: Mode, out: &mut [u8], at: usize) -> usize
 pub fn status(status: u8, out: &mut [u8], at: usize) -> usize
     ensures { λ r. ⌜ left r (now (out .exit)) ≡ saidOf (statusName status) (now (out .entry)) at ⌝ }
 {
-    match status {
-        0 => say(b"OK", out, at),
-        Device::TARGET => say(b"errTARGET", out, at),
-        Device::WRITE => say(b"errWRITE", out, at),
-        Device::VENDOR => say(b"errVENDOR", out, at),
-        Device::STALLED => say(b"errSTALLEDPKT", out, at),
-        _ => decimal(status as usize, out, at),
+    let part = status_part(status);
+    if part.to == 0 {
+        return decimal(status as usize, out, at);
     }
+    say_part(part.from, part.to, out, at)
 }
 
 // The number in decimal.
