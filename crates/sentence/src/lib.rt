@@ -1,0 +1,145 @@
+// Sentences with gaps: a template, and the numbers and texts that go into it.
+//
+// In a template # stands for a number in decimal, @ for one as an address, % for one as a byte in two digits, $ for a
+// text, and [a|b|c] for the part that a number picks, counted from 0, or for none where there are not so many. Each of
+// them takes the next number or text, also in a part that is not picked. All else stands for itself.
+ghost use mathlib.Core.Path.{_≡_};
+ghost use mathlib.Core.Bool.{cond};
+ghost use mathlib.Core.List.{[], _∷_};
+ghost use Prim.Native.Nat.{_+_, _≤_, _<_};
+ghost use lib.ListN.{length, drop, getD};
+ghost use Rattle.hex.specs.Hex.{hexOf};
+ghost use Rattle.words.specs.Words.{left, saidOf};
+ghost use Rattle.sentence.specs.Sentence.{firstText, spelledOf, takesOf, leftTexts, partOf, pickedOf, sentenceOf};
+
+// How many bytes and how many addresses there are.
+const BYTES: usize = 0x100;
+
+const ADDRESSES: usize = 0x1_0000_0000;
+
+// The number at a place, or 0 past the end.
+fn number_at(numbers: &[usize], at: usize) -> usize
+    ensures { λ r. ⌜ r ≡ getD (now (numbers .entry)) at 0 ⌝ }
+{
+    if numbers.len() <= at {
+        return 0;
+    }
+    numbers[at]
+}
+
+// Where the text that begins at place `from` ends: before the next bar, or where the texts do.
+fn text_end(texts: &[u8], from: usize) -> usize
+    requires { ⌜ from ≤ length (now texts) ⌝ }
+    ensures { λ r. ⌜ (r ≡ from + length (firstText (drop from (now (texts .entry))))) × (from ≤ r) × (r ≤ length (now (texts .entry))) ⌝ }
+{
+    let mut i = from;
+    while i < texts.len() {
+        if texts[i] == b'|' {
+            return i;
+        }
+        i += 1;
+    }
+    i
+}
+
+// A byte's two digits.
+fn digits(byte: u8, out: &mut [u8], at: usize) -> usize
+    ensures { λ r. ⌜ left r (now (out .exit)) ≡ saidOf (hexOf (byte ∷ [])) (now (out .entry)) at ⌝ }
+{
+    words::say(&[hex::digit(byte / 16), hex::digit(byte)], out, at)
+}
+
+// What a byte of the template comes to, with the next number and the next text; nothing where its part is not picked.
+fn spell(is_picked: bool, byte: u8, number: usize, text: &[u8], out: &mut [u8], at: usize) -> usize
+    ensures { λ r. ⌜ left r (now (out .exit)) ≡ saidOf (cond «is_picked» (spelledOf byte number (now (text .entry))) []) (now (out .entry)) at ⌝ }
+{
+    if !is_picked {
+        return at;
+    }
+    match byte {
+        b'#' => words::decimal(number, out, at),
+        b'@' => words::address((number % ADDRESSES) as u32, out, at),
+        b'%' => digits((number % BYTES) as u8, out, at),
+        b'$' => words::say(text, out, at),
+        b'[' => at,
+        b'|' => at,
+        b']' => at,
+        _ => words::say(&[byte], out, at),
+    }
+}
+
+// How many numbers a byte takes.
+fn takes(byte: u8) -> usize
+    ensures { λ r. ⌜ (r ≡ takesOf byte) × (r ≤ 1) ⌝ }
+{
+    match byte {
+        b'#' => 1,
+        b'@' => 1,
+        b'%' => 1,
+        b'[' => 1,
+        _ => 0,
+    }
+}
+
+// The place of the next text behind the byte, where the one at place `from` ends at place `end`.
+fn text_after(byte: u8, texts: &[u8], from: usize, end: usize) -> usize
+    requires { ⌜ (from ≤ length (now texts)) × (end ≡ from + length (firstText (drop from (now texts)))) × (end ≤ length (now texts)) ⌝ }
+    ensures { λ r. ⌜ (drop r (now (texts .entry)) ≡ leftTexts byte (drop from (now (texts .entry)))) × (r ≤ length (now (texts .entry))) ⌝ }
+{
+    if byte != b'$' {
+        return from;
+    }
+    if end < texts.len() {
+        return end + 1;
+    }
+    end
+}
+
+// The part that stands behind the byte, counted from 0.
+fn part_after(byte: u8, part: usize) -> usize
+    requires { ⌜ part < 0xFFFF_FFFF_FFFF_FFFF ⌝ }
+    ensures { λ r. ⌜ (r ≡ partOf byte part) × (r ≤ part + 1) ⌝ }
+{
+    match byte {
+        b'[' => 0,
+        b'|' => part + 1,
+        b']' => 0,
+        _ => part,
+    }
+}
+
+// The part that is picked behind the byte.
+fn picked_after(byte: u8, picked: usize, number: usize) -> usize
+    ensures { λ r. ⌜ r ≡ pickedOf byte picked number ⌝ }
+{
+    match byte {
+        b'[' => number,
+        b']' => 0,
+        _ => picked,
+    }
+}
+
+// The sentence goes over the bytes of `out` from place `at` on, as much of it as there is room for; gives the place
+// behind it. Texts stand one behind the other with a bar between them. A number that is missing is 0, a text is empty.
+pub fn fill(template: &[u8], numbers: &[usize], texts: &[u8], out: &mut [u8], at: usize) -> usize
+    ensures { λ r. ⌜ left r (now (out .exit)) ≡ saidOf (sentenceOf (now (template .entry)) (now (numbers .entry)) (now (texts .entry))) (now (out .entry)) at ⌝ }
+{
+    let mut end = at;
+    let mut i = 0;
+    let mut taken = 0;
+    let mut text = 0;
+    let mut part = 0;
+    let mut picked = 0;
+    while i < template.len() {
+        let byte = template[i];
+        let number = number_at(numbers, taken);
+        let stop = text_end(texts, text);
+        end = spell(part == picked, byte, number, &texts[text..stop], out, end);
+        taken += takes(byte);
+        text = text_after(byte, texts, text, stop);
+        part = part_after(byte, part);
+        picked = picked_after(byte, picked, number);
+        i += 1;
+    }
+    end
+}
