@@ -1,0 +1,186 @@
+// Files: read into lent buffers, and what to say of one that cannot be read.
+//
+// A program tells of a file which argument names it and, in one text with bars, what it is, what it is called in the
+// current folder, where it is found when there is no such argument, and all that the program takes: `job|job.txt|job
+// and board`. No contract can say what the system reads: that the bytes which came are those of the file is seen by running.
+ghost use mathlib.Core.Path.{_≡_};
+ghost use mathlib.Core.Bool.{cond};
+ghost use mathlib.Core.List.{[], _∷_};
+ghost use Prim.Native.Nat.{_+_, _≤_};
+ghost use lib.ListN.{length};
+ghost use Rattle.words.specs.Words.{left, saidOf};
+ghost use Rattle.files.specs.Kept.{Kept};
+ghost use Rattle.files.specs.Unreadable.{causeOf, unreadableOf};
+
+// What keeps a file from being read.
+pub enum Fault {
+    None,
+    Missing,
+    Barred,
+    Folder,
+    Other,
+}
+
+// How a file came out: `count` bytes stand in front of the buffer. They are all of it, or as many as there is room for,
+// where it is read; else there is a fault.
+pub struct Got {
+    pub is_read: bool,
+    pub is_named: bool,
+    pub count: usize,
+    pub fault: Fault,
+}
+
+fn least(a: usize, b: usize) -> usize
+    ensures { λ r. ⌜ (r ≤ a) × (r ≤ b) ⌝ }
+{
+    if a < b { a } else { b }
+}
+
+// The fault behind the system's last error.
+fn reason() -> Fault {
+    let error = os::errno();
+    match error {
+        libc::ENOENT => Fault::Missing,
+        libc::EACCES => Fault::Barred,
+        libc::EISDIR => Fault::Folder,
+        _ => Fault::Other,
+    }
+}
+
+fn failed() -> Got
+    ensures { λ r. ⌜ r .count ≡ 0 ⌝ }
+{
+    Got {
+        is_read: false,
+        is_named: false,
+        count: 0,
+        fault: reason(),
+    }
+}
+
+fn came(count: usize) -> Got
+    ensures { λ r. ⌜ r .count ≡ count ⌝ }
+{
+    Got {
+        is_read: true,
+        is_named: false,
+        count,
+        fault: Fault::None,
+    }
+}
+
+// One read. The system may do as it likes with the bytes behind those that come.
+fn take(fd: i32, chunk: &mut [u8]) -> Got
+    ensures { λ r. ⌜ r .count ≤ length (now (chunk .exit)) ⌝ }
+{
+    let got = libc::read(fd, chunk);
+    if got < 0 {
+        return failed();
+    }
+    came(io::count(got, chunk))
+}
+
+// The first bytes of `source` go over those of `buffer` from place `at` on, as many as `got` counts.
+fn keep(got: Got, source: &[u8], buffer: &mut [u8], at: usize)
+    requires { ⌜ (got .count ≤ length (now source)) × (at + got .count ≤ length (now buffer)) ⌝ }
+    ensures { λ _. ⌜ Kept (at + got .count) (now (buffer .entry)) (now (buffer .exit)) ⌝ }
+{
+    let count = got.count;
+    buffer::put(buffer, at, &source[0..count]);
+}
+
+// One read into `buffer` from place `at` on, by way of a lent chunk, so that nothing else changes.
+fn more(fd: i32, chunk: &mut [u8], buffer: &mut [u8], at: usize) -> Got
+    requires { ⌜ at ≤ length (now buffer) ⌝ }
+    ensures { λ r. ⌜ Kept (at + r .count) (now (buffer .entry)) (now (buffer .exit)) ⌝ }
+{
+    let room = least(buffer.len() - at, chunk.len());
+    let got = take(fd, &mut chunk[0..room]);
+    keep(got, chunk, buffer, at);
+    got
+}
+
+// Reads until the buffer is full, the file ends or a read fails.
+fn fill(fd: i32, chunk: &mut [u8], buffer: &mut [u8]) -> Got
+    ensures { λ r. ⌜ Kept (r .count) (now (buffer .entry)) (now (buffer .exit)) ⌝ }
+{
+    let mut at = 0;
+    while at < buffer.len() {
+        let got = more(fd, chunk, buffer, at);
+        if got.count == 0 {
+            return Got { count: at, ..got };
+        }
+        at += got.count;
+    }
+    came(at)
+}
+
+// Opens the file in the folder, whose name is the second text.
+fn open_found(file: &[u8], path: &mut [u8]) -> i32 {
+    let length = sentence::fill(b"[$|$]", &[1], file, path, 0);
+    os::open_read(&path[0..least(length, path.len())])
+}
+
+fn open(is_named: bool, argument: usize, file: &[u8], path: &mut [u8]) -> i32 {
+    if !is_named {
+        return open_found(file, path);
+    }
+    let length = os::arg(argument, path);
+    if os::errno() != 0 {
+        return -1;
+    }
+    os::open_read(&path[0..length])
+}
+
+// Reads the file, no further than the buffer goes: one of a byte more than the longest that can be right shows a file
+// that is too long.
+pub fn read(argument: usize, file: &[u8], buffer: &mut [u8]) -> Got
+    ensures { λ r. ⌜ Kept (r .count) (now (buffer .entry)) (now (buffer .exit)) ⌝ }
+{
+    let mut space = io::buffer();
+    let is_named = argument < os::arg_count();
+    let fd = open(is_named, argument, file, &mut space);
+    if fd < 0 {
+        return Got {
+            is_named,
+            ..failed()
+        };
+    }
+    let got = fill(fd, &mut space, buffer);
+    libc::close(fd);
+    Got { is_named, ..got }
+}
+
+// Where the file was looked for: the argument, or 0 for the folder.
+fn place(is_named: bool, argument: usize) -> usize
+    ensures { λ r. ⌜ r ≡ cond «is_named» argument 0 ⌝ }
+{
+    if is_named { argument } else { 0 }
+}
+
+// Why it cannot be read, as the sentence counts it.
+fn cause(fault: Fault, is_named: bool) -> usize
+    ensures { λ r. ⌜ r ≡ causeOf fault «is_named» ⌝ }
+{
+    match fault {
+        Fault::Missing => if is_named { 1 } else { 0 },
+        Fault::Barred => 2,
+        Fault::Folder => 3,
+        Fault::Other => 4,
+        Fault::None => 4,
+    }
+}
+
+// What to say of a file that could not be read goes to the front of `out`; gives how long it is.
+pub fn unreadable(got: Got, argument: usize, file: &[u8], out: &mut [u8]) -> usize
+    ensures { λ r. ⌜ left r (now (out .exit)) ≡ saidOf (unreadableOf (got .fault) (got .«is_named») argument (now (file .entry))) (now (out .entry)) 0 ⌝ }
+{
+    let fault = got.fault;
+    sentence::fill(
+        b"The $ ([$ in this folder|the first argument|the second argument|the third argument|the fourth argument]) cannot be read: [there is no such file. Put it there, or name $.|there is no such file. Correct the path.|you have no permission. Have the file made readable for you.|it is a folder. Name the file itself.|the system cannot read it. See that the path names a file that can be read.]",
+        &[place(got.is_named, argument), cause(fault, got.is_named)],
+        file,
+        out,
+        0,
+    )
+}
