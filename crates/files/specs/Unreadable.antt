@@ -9,7 +9,7 @@ use Rattle.files.specs.declared.Fault.the-variants.{None, Missing, Barre
 
 -- what is said: the first number is the argument that names the file, or 0; the second one why it cannot be read
 abbrev pub template : List ℕ
-template = ascii "The $ ([$ in this folder|the first argument|the second argument|the third argument|the fourth argument]) cannot be read: [there is no such file. Put it there, or name $.|there is no such file. Correct the path.|you have no permission. Have the file made readable for you.|it is a folder. Name the file itself.|the system cannot read it. See that the path names a file that can be read.]"
+template = ascii "The $ ([$ in this folder|the first argument|the second argument|the third argument|a later argument]) cannot be read: [there is no such file. Put it there, or name $.|there is no such file. Correct the path.|you have no permission. Have the file made readable for you.|it is a folder. Name the file itself.|the system cannot read it. See that the path names a file that can be read.]"
 
 -- a missing file is told apart by whether an argument names it
 abbrev pub causeOf : Fault → Bool → ℕ

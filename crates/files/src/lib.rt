@@ -177,7 +177,7 @@ pub fn unreadable(got: Got, argument: usize, file: &[u8], out: &mut [u8]) -> usi
 {
     let fault = got.fault;
     sentence::fill(
-        b"The $ ([$ in this folder|the first argument|the second argument|the third argument|the fourth argument]) cannot be read: [there is no such file. Put it there, or name $.|there is no such file. Correct the path.|you have no permission. Have the file made readable for you.|it is a folder. Name the file itself.|the system cannot read it. See that the path names a file that can be read.]",
+        b"The $ ([$ in this folder|the first argument|the second argument|the third argument|a later argument]) cannot be read: [there is no such file. Put it there, or name $.|there is no such file. Correct the path.|you have no permission. Have the file made readable for you.|it is a folder. Name the file itself.|the system cannot read it. See that the path names a file that can be read.]",
         &[place(got.is_named, argument), cause(fault, got.is_named)],
         file,
         out,

@@ -1,12 +1,13 @@
 // Writes the job that puts the image of image.bin on a board with the card of card.bin to standard
 // output. Arguments, if given, are the paths of the two files. A refusal goes to standard error.
-mod file;
 mod refuse;
 
+ghost use Prim.Native.Nat.{_≤_};
+ghost use lib.ListN.{length};
 use board::Board;
+use files::Got;
 use libc::STDOUT_FILENO;
 use refusal::Done;
-use refusal::Refusal;
 
 // One byte more than an image and a card may have, so that a longer file shows as such.
 const IMAGE_ROOM: usize = Board::LOGGER.pages as usize * Board::PAGE + 1;
@@ -16,8 +17,13 @@ const CARD_ROOM: usize = Board::OPTION_BYTES + 1;
 // The longest job of an image.
 const JOB_ROOM: usize = 36078;
 
+// The arguments of a call that names both files: the program's own name is the first.
+const NAMED: usize = 3;
+
 fn write(job: &[u8], size: usize) {
-    io::write_all(STDOUT_FILENO, &job[0..file::least(size, job.len())]);
+    if size <= job.len() {
+        io::write_all(STDOUT_FILENO, &job[0..size]);
+    }
 }
 
 // Writes the job of an image for a card.
@@ -30,41 +36,41 @@ fn perform(image: &[u8], card: &[u8]) {
     }
 }
 
+// Reads a file, or refuses for it.
+fn load(argument: usize, file: &[u8], buffer: &mut [u8]) -> Got
+    ensures { λ r. ⌜ r .count ≤ length (now (buffer .exit)) ⌝ }
+{
+    let got = files::read(argument, file, buffer);
+    if !got.is_read {
+        refuse::unreadable(got, argument, file);
+    }
+    got
+}
+
+// Reads the card of a board for an image.
+fn suit(image: &[u8]) {
+    let mut card = [0u8; CARD_ROOM];
+    let got = load(2, b"card|card.bin|image and card", &mut card);
+    if got.is_read {
+        let count = got.count;
+        perform(image, &card[0..count]);
+    }
+}
+
+// Reads the image.
 fn make() {
     let mut image = [0u8; IMAGE_ROOM];
-    let mut card = [0u8; CARD_ROOM];
-    let wanted = file::load(1, b"image.bin", &mut image);
-    let options = file::load(2, b"card.bin", &mut card);
-    if !wanted.readable {
-        refuse::unreadable(
-            1,
-            b"The image (image.bin in this folder)",
-            b"The image (the first argument)",
-            wanted.error,
-        );
-        return;
+    let got = load(1, b"image|image.bin|image and card", &mut image);
+    if got.is_read {
+        let count = got.count;
+        suit(&image[0..count]);
     }
-    if !options.readable {
-        refuse::unreadable(
-            2,
-            b"The card (card.bin in this folder)",
-            b"The card (the second argument)",
-            options.error,
-        );
-        return;
-    }
-    let image_bytes = wanted.count;
-    let card_bytes = options.count;
-    perform(&image[0..image_bytes], &card[0..card_bytes]);
 }
 
 fn main() {
-    if file::is_named(3) {
-        refuse::say(
-            Refusal::File,
-            b"Name two files, the image and the card, or none to take image.bin and card.bin in this folder.\n",
-        );
+    if os::arg_count() <= NAMED {
+        make();
         return;
     }
-    make();
+    refuse::arguments();
 }

@@ -1,3 +1,4 @@
 pub mod Texts
+pub mod Parts
 pub mod Spelled
 pub mod Turns

@@ -2,7 +2,7 @@
 use mathlib.Core.Bool.{cond, _||_}
 use mathlib.Core.List.{List, [], _∷_, _++_}
 use Prim.Native.Nat.{ℕ, suc, _+_, _%_}
-use lib.Dec.{eqb}
+use lib.Dec.{eqb, ltb}
 use lib.ListN.{drop, getD}
 use Rattle.hex.specs.Hex.{hexOf}
 use Rattle.decimal.specs.Decimal.{decimalOf}
@@ -61,16 +61,21 @@ leftTexts b ts = cond (eqb b text) (otherTexts ts) ts
 abbrev pub partOf : ℕ → ℕ → ℕ
 partOf b part = cond (eqb b bar) (part + 1) (cond (eqb b opens || eqb b closes) 0 part)
 
--- which part is picked behind it: the one that the number says; outside of parts it is 0
-abbrev pub pickedOf : ℕ → ℕ → ℕ → ℕ
-pickedOf b picked n = cond (eqb b opens) n (cond (eqb b closes) 0 picked)
+-- how many bars stand in front of the next closing bracket
+unfoldable pub barsOf : List ℕ → ℕ
+barsOf [] = 0
+barsOf (x ∷ xs) = cond (eqb x closes) 0 (cond (eqb x bar) 1 0 + barsOf xs)
+
+-- which part is picked behind it, with t behind it: the one that the number says, or the last; outside of parts it is 0
+abbrev pub pickedOf : ℕ → ℕ → ℕ → List ℕ → ℕ
+pickedOf b picked n t = cond (eqb b opens) (cond (ltb n (barsOf t)) n (barsOf t)) (cond (eqb b closes) 0 picked)
 
 -- a template, in this part where that one is picked, with the numbers and the texts that it has not taken: what is not picked says nothing
 unfoldable pub filledOf : List ℕ → ℕ → ℕ → List ℕ → List ℕ → List ℕ
 filledOf [] part picked ns ts = []
 filledOf (b ∷ t) part picked ns ts =
     cond (eqb part picked) (spelledOf b (getD ns 0 0) (firstText ts)) []
-    ++ filledOf t (partOf b part) (pickedOf b picked (getD ns 0 0)) (drop (takesOf b) ns) (leftTexts b ts)
+    ++ filledOf t (partOf b part) (pickedOf b picked (getD ns 0 0) t) (drop (takesOf b) ns) (leftTexts b ts)
 
 -- a whole template
 unfoldable pub sentenceOf : List ℕ → List ℕ → List ℕ → List ℕ

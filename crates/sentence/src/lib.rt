@@ -1,16 +1,17 @@
 // Sentences with gaps: a template, and the numbers and texts that go into it.
 //
 // In a template # stands for a number in decimal, @ for one as an address, % for one as a byte in two digits, $ for a
-// text, and [a|b|c] for the part that a number picks, counted from 0, or for none where there are not so many. Each of
-// them takes the next number or text, also in a part that is not picked. All else stands for itself.
+// text, and [a|b|c] for the part that a number picks, counted from 0, or for the last where there are not so many. Each
+// of them takes the next number or text, also in a part that is not picked. All else stands for itself.
 ghost use mathlib.Core.Path.{_≡_};
 ghost use mathlib.Core.Bool.{cond};
 ghost use mathlib.Core.List.{[], _∷_};
 ghost use Prim.Native.Nat.{_+_, _≤_, _<_};
+ghost use lib.Dec.{eqb, ltb};
 ghost use lib.ListN.{length, drop, getD};
 ghost use Rattle.hex.specs.Hex.{hexOf};
 ghost use Rattle.words.specs.Words.{left, saidOf};
-ghost use Rattle.sentence.specs.Sentence.{firstText, spelledOf, takesOf, leftTexts, partOf, pickedOf, sentenceOf};
+ghost use Rattle.sentence.specs.Sentence.{firstText, spelledOf, takesOf, leftTexts, partOf, barsOf, pickedOf, sentenceOf};
 
 // How many bytes and how many addresses there are.
 const BYTES: usize = 0x100;
@@ -108,12 +109,43 @@ fn part_after(byte: u8, part: usize) -> usize
     }
 }
 
-// The part that is picked behind the byte.
-fn picked_after(byte: u8, picked: usize, number: usize) -> usize
-    ensures { λ r. ⌜ r ≡ pickedOf byte picked number ⌝ }
+// The smaller of two.
+fn least(a: usize, b: usize) -> usize
+    ensures { λ r. ⌜ r ≡ cond (ltb a b) a b ⌝ }
+{
+    if a < b { a } else { b }
+}
+
+// Is the byte a bar? As a number, for a loop to count.
+fn bar(byte: u8) -> usize
+    ensures { λ r. ⌜ (r ≡ cond (eqb byte 124) 1 0) × (r ≤ 1) ⌝ }
+{
+    if byte == b'|' { 1 } else { 0 }
+}
+
+// How many bars stand in front of the next closing bracket.
+fn bars(rest: &[u8]) -> usize
+    ensures { λ r. ⌜ r ≡ barsOf (now (rest .entry)) ⌝ }
+{
+    let mut count = 0;
+    let mut i = 0;
+    while i < rest.len() {
+        let byte = rest[i];
+        if byte == b']' {
+            return count;
+        }
+        count += bar(byte);
+        i += 1;
+    }
+    count
+}
+
+// The part that is picked behind the byte, with `rest` of the template behind it.
+fn picked_after(byte: u8, picked: usize, number: usize, rest: &[u8]) -> usize
+    ensures { λ r. ⌜ r ≡ pickedOf byte picked number (now (rest .entry)) ⌝ }
 {
     match byte {
-        b'[' => number,
+        b'[' => least(number, bars(rest)),
         b']' => 0,
         _ => picked,
     }
@@ -138,8 +170,8 @@ pub fn fill(template: &[u8], numbers: &[usize], texts: &[u8], out: &mut [u8], at
         taken += takes(byte);
         text = text_after(byte, texts, text, stop);
         part = part_after(byte, part);
-        picked = picked_after(byte, picked, number);
         i += 1;
+        picked = picked_after(byte, picked, number, &template[i..]);
     }
     end
 }

@@ -63,25 +63,35 @@ text-after-requires c κs =
 part-after-requires : tie.Need-part-after-requires Inv-loop μ-loop
 part-after-requires c κs = omega arith
 
-picked-after-requires : tie.Need-picked-after-requires Inv-loop μ-loop
-picked-after-requires c κs = search needs
-
 add-i : tie.Need-add-i Inv-loop μ-loop
 add-i c = omega arith
+
+sub-picked-after : tie.Need-sub-picked-after Inv-loop μ-loop
+sub-picked-after c = omega arith
+
+part-picked-after-start : tie.Need-part-picked-after-start Inv-loop μ-loop
+part-picked-after-start c = omega arith
+
+part-picked-after-end : tie.Need-part-picked-after-end Inv-loop μ-loop
+part-picked-after-end c = omega arith
+
+picked-after-requires : tie.Need-picked-after-requires Inv-loop μ-loop
+picked-after-requires c κs = search needs
 
 loop-less : tie.Need-loop-less Inv-loop μ-loop
 loop-less c = omega arith
 
 loop-again : tie.Need-loop-again Inv-loop μ-loop
 loop-again c =
-    let s = c .before .before .before .before .before .before in
+    let s = c .before .before .before .before .before .before .before in
     let e = s .before .before .before in
+    let t = c .before .before .before .text-after in
     let l = e .before .before .before .before .loop in (
-      fill-turn _ _ _ (l .i) (l .part) (l .picked) (l .taken) (l .text) (e .before .before .before .loop-test .taken) _ (e .before .number-at .result) _ _ _ (c .before .before .text-after .result) _ refl (e .before .number-at .ensures) (text-part _ _ _ (e .text-end .ensures .0)) (c .before .part-after .ensures .0) (c .picked-after .ensures) (ap₂ _+_ refl (c .before .before .before .takes .ensures .0)) (c .before .before .text-after .ensures .0) _ _ _ _ (s .spell .ensures) ∙ l .inv .0,
+      fill-turn _ _ _ (l .i) (l .part) (l .picked) (l .taken) (l .text) (e .before .before .before .loop-test .taken) _ (e .before .number-at .result) _ _ _ (t .result) _ refl (e .before .number-at .ensures) (text-part _ _ _ (e .text-end .ensures .0)) (c .before .before .part-after .ensures .0) (c .picked-after .ensures) (ap₂ _+_ refl (c .before .before .before .before .takes .ensures .0)) (t .ensures .0) _ _ _ _ (s .spell .ensures) ∙ l .inv .0,
       omega (arith, s .spell .kept, l .inv .1),
       omega arith,
       omega arith,
-      c .before .before .text-after .ensures .1,
+      t .ensures .1,
       omega arith,
     )
 
@@ -109,8 +119,11 @@ fill-spec =
     add-taken
     text-after-requires
     part-after-requires
-    picked-after-requires
     add-i
+    sub-picked-after
+    part-picked-after-start
+    part-picked-after-end
+    picked-after-requires
     loop-less
     loop-again
     same-length
