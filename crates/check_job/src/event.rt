@@ -113,7 +113,13 @@ fn upload(device: Device, setup: Setup, memory: &[u8]) {
     }
     let protected = Board::LOGGER.read_protected(memory);
     let from = action::block_address(setup.value, count, device.pointer);
-    let access = action::examine(Board::LOGGER, protected, from, count);
+    let access = action::examine_block(
+        Board::LOGGER,
+        protected,
+        setup.value,
+        count,
+        device.pointer,
+    );
     match access {
         Access::Denied(status) => denied(status, from, count),
         _ => {}
@@ -134,7 +140,7 @@ fn dirty(first: usize) {
 fn write(pointer: u32, block: u16, count: u16, memory: &[u8]) {
     let protected = Board::LOGGER.read_protected(memory);
     let from = action::block_address(block, count, pointer);
-    let access = action::examine(Board::LOGGER, protected, from, count);
+    let access = action::examine_block(Board::LOGGER, protected, block, count, pointer);
     match access {
         Access::Denied(status) => denied(status, from, count),
         Access::InFlash(first) => dirty(trial::first_written(memory, first)),
