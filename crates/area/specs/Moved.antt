@@ -1,4 +1,4 @@
--- How what a request comes to is read: a device of the proof, which no public promise names. Assumes nothing.
+-- How what a request comes to is read: a device of the proof, which the promise of no call that a customer makes names. Assumes nothing.
 use mathlib.Core.Bool.{cond}
 use mathlib.Core.List.{List}
 use Prim.Native.Nat.{ℕ}

@@ -38,7 +38,7 @@ guarded = memory 0x77 (put 8 (0xFE ∷ []) defaults)
 abbrev pub done : Mode → List ℕ → Finding
 done mode m = state (1 ∷ 6 ∷ 0 ∷ 100 ∷ 0 ∷ 0 ∷ 4 ∷ 0 ∷ []) 0 mode m
 
--- and where it failing: the status, and mode 10
+-- and where it failed: the status, and mode 10
 abbrev pub failing : ℕ → List ℕ → Finding
 failing status m = state (1 ∷ 6 ∷ status ∷ 0 ∷ 0 ∷ 0 ∷ 10 ∷ 0 ∷ []) status Error m
 

@@ -1,4 +1,4 @@
--- A device of the proof, which no public promise names: what is known of every board at once. The work area holds a value
+-- A device of the proof, which the promise of no call that a customer makes names: what is known of every board at once. The work area holds a value
 -- and a mark for each byte of memory, and a block. A mark of 1 says that every board holds that value; a byte without it is
 -- the board's own, as it was at the start. Assumes nothing.
 use mathlib.Core.Bool.{Bool, cond, not, _&&_}

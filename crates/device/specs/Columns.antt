@@ -5,7 +5,7 @@ use Rattle.request.specs.declared.Request.the-variants.{Download, Upload, GetSt
 use Rattle.device.specs.declared.Mode.{Mode}
 use Rattle.device.specs.declared.Mode.the-variants.{Idle, DownloadSync, DownloadBusy, DownloadIdle, ManifestSync, UploadIdle, Error, Left, Rebooting}
 
--- "a constant table of numbers, by request and mode": the requests in the order of the rows
+-- the requests in the order of the rows
 abbrev pub rowOf : Request → ℕ
 rowOf Download = 0
 rowOf Upload = 1

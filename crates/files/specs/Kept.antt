@@ -1,4 +1,4 @@
--- What reading a file leaves of a buffer. Assumes nothing.
+-- What reading a file leaves of a buffer: no rule of the paper. Assumes nothing.
 use mathlib.Core.Path.{_≡_}
 use mathlib.Core.List.{List}
 use Prim.Native.Nat.{ℕ, _≤_}

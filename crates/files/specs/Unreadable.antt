@@ -1,4 +1,4 @@
--- The sentence about a file that cannot be read. Assumes nothing.
+-- The sentence about a file that cannot be read: for people, and no rule of the paper. Assumes nothing.
 use mathlib.Core.Bool.{Bool, cond}
 use mathlib.Core.List.{List, [], _∷_}
 use Prim.Native.Nat.{ℕ}

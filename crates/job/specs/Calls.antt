@@ -23,7 +23,7 @@ textRefusals t =
     ∷ (Line (firstBad t), not (eqb (firstBad t) 0))
     ∷ []
 
--- how many packed bytes the text's events take
+-- 9 or 10, or how many packed bytes the text's events take
 unfoldable pub measureOf : List ℕ → Done
 measureOf t = counted (firstOf (textRefusals t)) (length (packedOf (eventsOf t)))
 

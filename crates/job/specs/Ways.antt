@@ -32,6 +32,6 @@ lineSize n = cond (ltb n 9) 2 (n * 2 + 2)
 unfoldable pub capped : ℕ → ℕ
 capped n = cond (ltb limit n) (limit + 1) n
 
--- how long the text of a packed list is, as far as the limit
+-- 5, or how long the text of a packed list is, counted no further than one over the limit
 unfoldable pub sizeOf : List ℕ → Done
 sizeOf p = counted (firstOf (packedRefusals p)) (capped (length (textOf (unpacked p))))

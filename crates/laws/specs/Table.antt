@@ -8,7 +8,7 @@ abbrev pub every : {A : Type 0} → (ℕ → A → Bool) → ℕ → List A → 
 every test i [] = true
 every test i (x ∷ xs) = test i x && every test (suc i) xs
 
--- two truth values are the agree
+-- two truth values agree
 abbrev pub agree : Bool → Bool → Bool
 agree true b = b
 agree false true = false

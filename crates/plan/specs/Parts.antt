@@ -1,4 +1,4 @@
--- The plan in the parts that the writer writes one after the other, and its length. Document 01, "The checker and the plan", last paragraph. Assumes nothing.
+-- The plan in the parts that the writer writes one after the other, and its length: what the code goes by, and no rule of the paper. Assumes nothing.
 use mathlib.Core.Bool.{cond}
 use mathlib.Core.List.{List, [], _++_}
 use mathlib.Core.Path.{_≡_}

@@ -1,4 +1,4 @@
--- What a template says with its gaps filled. Assumes nothing.
+-- What a template says with its gaps filled: for the words of programs, and no rule of the paper. Assumes nothing.
 use mathlib.Core.Bool.{cond, _||_}
 use mathlib.Core.List.{List, [], _∷_, _++_}
 use Prim.Native.Nat.{ℕ, suc, _+_, _%_}
@@ -8,25 +8,31 @@ use Rattle.hex.specs.Hex.{hexOf}
 use Rattle.decimal.specs.Decimal.{decimalOf}
 use Rattle.words.specs.Words.{addressOf}
 
--- the marks of a template: # @ % $ [ | ]
+-- "#": a number in decimal
 abbrev pub number : ℕ
 number = 35
 
+-- "@": a number as an address
 abbrev pub address : ℕ
 address = 64
 
+-- "%": a number as a byte in two digits
 abbrev pub byte : ℕ
 byte = 37
 
+-- "$": a text
 abbrev pub text : ℕ
 text = 36
 
+-- "[": parts begin, of which a number picks one
 abbrev pub opens : ℕ
 opens = 91
 
+-- "|": the next part, or the next text
 abbrev pub bar : ℕ
 bar = 124
 
+-- "]": the parts end
 abbrev pub closes : ℕ
 closes = 93
 

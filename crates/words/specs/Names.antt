@@ -8,14 +8,14 @@ use Rattle.device.specs.Wire.{errTARGET, errWRITE, errVENDOR, errSTALLEDPKT}
 use Rattle.words.specs.Words.{requestName, modeName, statusName}
 
 -- the names one behind the other, a bar behind each
-abbrev pub barred : List (List ℕ) → List ℕ
-barred [] = []
-barred (x ∷ xs) = x ++ (124 ∷ barred xs)
+abbrev pub withBars : List (List ℕ) → List ℕ
+withBars [] = []
+withBars (x ∷ xs) = x ++ (124 ∷ withBars xs)
 
 -- all names: of the modes, the requests and the statuses
 abbrev pub names : List ℕ
 names =
-    barred
+    withBars
     (modeName mode.Idle
     ∷ modeName mode.DownloadSync
     ∷ modeName mode.DownloadBusy
@@ -44,5 +44,5 @@ abbrev pub namesLength : ℕ
 namesLength = 239
 
 -- the part of them from one place up to another
-abbrev pub partOf : ℕ → ℕ → List ℕ
-partOf from to = take (to - from) (drop from names)
+abbrev pub namesFrom : ℕ → ℕ → List ℕ
+namesFrom from to = take (to - from) (drop from names)

@@ -7,7 +7,7 @@ ghost use mathlib.Core.Bool.{cond};
 ghost use Prim.Native.Nat.{_≤_};
 ghost use lib.Dec.{eqb};
 ghost use Rattle.decimal.specs.Decimal.{decimalOf};
-ghost use Rattle.words.specs.Names.{namesLength, partOf};
+ghost use Rattle.words.specs.Names.{namesLength, namesFrom};
 ghost use Rattle.words.specs.Words.{left, saidOf, requestName, modeName, statusName, highFirst, addressOf};
 use device::Device;
 use device::Mode;
@@ -42,7 +42,7 @@ struct Part {
 // The part of the text of all names from place `from` up to place `to`.
 fn say_part(from: usize, to: usize, out: &mut [u8], at: usize) -> usize
     requires { ⌜ (from ≤ to) × (to ≤ namesLength) ⌝ }
-    ensures { λ r. ⌜ left r (now (out .exit)) ≡ saidOf (partOf from to) (now (out .entry)) at ⌝ }
+    ensures { λ r. ⌜ left r (now (out .exit)) ≡ saidOf (namesFrom from to) (now (out .entry)) at ⌝ }
 {
     let names = *b"\
         dfuIDLE|dfuDNLOAD-SYNC|dfuDNBUSY|dfuDNLOAD-IDLE|dfuMANIFEST-SYNC|dfuUPLOAD-IDLE|dfuERROR|left|rebooting|\
@@ -53,7 +53,7 @@ fn say_part(from: usize, to: usize, out: &mut [u8], at: usize) -> usize
 
 // Where the request's name stands.
 fn request_part(request: Request) -> Part
-    ensures { λ r. ⌜ (r .from ≤ r .to) × (r .to ≤ namesLength) × (partOf (r .from) (r .to) ≡ requestName request) ⌝ }
+    ensures { λ r. ⌜ (r .from ≤ r .to) × (r .to ≤ namesLength) × (namesFrom (r .from) (r .to) ≡ requestName request) ⌝ }
 {
     match request {
         Request::Download => Part { from: 104, to: 110 },
@@ -76,7 +76,7 @@ pub fn request(request: Request, out: &mut [u8], at: usize) -> usize
 
 // Where the mode's name stands.
 fn mode_part(mode: Mode) -> Part
-    ensures { λ r. ⌜ (r .from ≤ r .to) × (r .to ≤ namesLength) × (partOf (r .from) (r .to) ≡ modeName mode) ⌝ }
+    ensures { λ r. ⌜ (r .from ≤ r .to) × (r .to ≤ namesLength) × (namesFrom (r .from) (r .to) ≡ modeName mode) ⌝ }
 {
     match mode {
         Mode::Idle => Part { from: 0, to: 7 },
@@ -101,7 +101,7 @@ pub fn mode(mode: Mode, out: &mut [u8], at: usize) -> usize
 
 // Where the status's name stands; up to 0 where the loader has no name for it.
 fn status_part(status: u8) -> Part
-    ensures { λ r. ⌜ (r .from ≤ r .to) × (r .to ≤ namesLength) × (cond (eqb (r .to) 0) (decimalOf status) (partOf (r .from) (r .to)) ≡ statusName status) ⌝ }
+    ensures { λ r. ⌜ (r .from ≤ r .to) × (r .to ≤ namesLength) × (cond (eqb (r .to) 0) (decimalOf status) (namesFrom (r .from) (r .to)) ≡ statusName status) ⌝ }
 {
     match status {
         0 => Part { from: 193, to: 195 },
