@@ -47,18 +47,26 @@ well-attach : wellPacked (0 ∷ []) ≡ true
 unfolding wellPacked fits eventIn packOf same
 well-attach = refl
 
+not-well-empty : wellPacked (firstPiece []) ≡ false
+unfolding wellPacked firstPiece pieceSize fits eventIn packOf same
+not-well-empty = refl
+
 not-well : (x : ℕ) → (x ≡ 0 → ⊥) → wellPacked (x ∷ []) ≡ false
 unfolding wellPacked fits eventIn fitsOf
 not-well x n = rw (ne-eqb x 0 n)
 
-pub attach-piece : (u : List ℕ) → 0 < length u → getD u 0 0 ≡ 0 → 1 ≡ pieceLength u
-attach-piece [] h k = absurd (omega arith)
+pub no-piece : (u : List ℕ) → length u ≡ 0 → 0 ≡ pieceLength u
+no-piece [] h = piece-bad [] not-well-empty
+no-piece (x ∷ t) h = absurd (omega arith)
+
+pub attach-piece : (u : List ℕ) → (length u ≡ 0 → ⊥) → getD u 0 0 ≡ 0 → 1 ≡ pieceLength u
+attach-piece [] h k = absurd (h refl)
 attach-piece (x ∷ t) h k =
     let f : firstPiece (x ∷ t) ≡ 0 ∷ [] = first-other x t (λ z. omega arith) ∙ ap (λ (y : ℕ). y ∷ []) k in
     sym (piece-good (x ∷ t) (ap wellPacked f ∙ well-attach) ∙ ap length f)
 
-pub other-piece : (u : List ℕ) → 0 < length u → (getD u 0 0 ≡ 0 → ⊥) → (getD u 0 0 ≡ 1 → ⊥) → 0 ≡ pieceLength u
-other-piece [] h m n = absurd (omega arith)
+pub other-piece : (u : List ℕ) → (length u ≡ 0 → ⊥) → (getD u 0 0 ≡ 0 → ⊥) → (getD u 0 0 ≡ 1 → ⊥) → 0 ≡ pieceLength u
+other-piece [] h m n = absurd (h refl)
 other-piece (x ∷ t) h m n = piece-bad (x ∷ t) (ap wellPacked (first-other x t n) ∙ not-well x m)
 
 -- a packed request: its kind byte, and then as many bytes as it asks for

@@ -302,11 +302,13 @@ fn request_piece(rest: &[u8]) -> usize
     HEAD + count
 }
 
-// How many bytes the packed event at the front of `rest` takes, or 0 where it is of no kind or ends too early.
-fn piece_length(rest: &[u8]) -> usize
-    requires { ⌜ 0 < length (now rest) ⌝ }
+// How many bytes the packed event at the front of `rest` takes, or 0 where there is none, or none that is whole.
+pub fn piece_length(rest: &[u8]) -> usize
     ensures { λ r. ⌜ (r ≡ pieceLength (now (rest .entry))) × (r ≤ length (now (rest .entry))) ⌝ }
 {
+    if rest.len() == 0 {
+        return 0;
+    }
     let kind = rest[0];
     match kind {
         0 => 1,

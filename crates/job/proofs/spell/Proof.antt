@@ -1,5 +1,6 @@
 -- `job::spell` meets its contract. Assumes nothing.
 use native.Mathlib.Omega.{arith}
+use borrow.Author.Needs.{needs}
 use Rattle.job.proofs.SpellLoop.{next-some, next-well, next-packs, next-room, next-total, next-laid, spell-end}
 use Rattle.job.specs.Packed.{packs, unpacked}
 use Rattle.job.specs.Event.{textOf}
@@ -36,7 +37,7 @@ part-piece-length-end : tie.Need-part-piece-length-end Inv-loop μ-loop
 part-piece-length-end c = omega arith
 
 piece-length-requires : tie.Need-piece-length-requires Inv-loop μ-loop
-piece-length-requires c κs = omega arith
+piece-length-requires c κs = search needs
 
 add-end : tie.Need-add-end Inv-loop μ-loop
 add-end c = omega arith

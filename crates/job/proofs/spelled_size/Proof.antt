@@ -1,5 +1,6 @@
 -- `job::spelled_size` meets its contract. Assumes nothing.
 use native.Mathlib.Omega.{arith}
+use borrow.Author.Needs.{needs}
 use Rattle.job.proofs.SpellSize.{turn-broken, turn-packs, turn-capped, size-broken, size-end}
 use Rattle.job.specs.Ways.{capped}
 use Rattle.job.specs.Packed.{packs, unpacked}
@@ -30,7 +31,7 @@ part-piece-length-end : tie.Need-part-piece-length-end Inv-loop μ-loop
 part-piece-length-end c = omega arith
 
 piece-length-requires : tie.Need-piece-length-requires Inv-loop μ-loop
-piece-length-requires c κs = omega arith
+piece-length-requires c κs = search needs
 
 returns : tie.Need-returns Inv-loop μ-loop
 returns c = size-broken _ (sym (c .before .before .before .before .loop .inv .0) ∙ turn-broken _ _ _ (c .before .before .before .loop-test .taken) (c .before .piece-length .ensures .0) (c .if1 .taken))
