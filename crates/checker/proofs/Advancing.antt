@@ -11,9 +11,9 @@ use Rattle.device.specs.State.{started}
 use Rattle.device.specs.WellFormed.{wellFormed}
 use Rattle.device.proofs.Form.{form-of, well-formed}
 use Rattle.hex.specs.Hex.{bytesOf}
-use Rattle.job.specs.Event.{Event, attach, request}
-use Rattle.job.specs.Text.{eventsOf}
-use Rattle.job.proofs.WalkEvents.{Beyond, Requested, events-end}
+use Rattle.text.specs.Event.{Event, attach, request}
+use Rattle.text.specs.Text.{eventsOf}
+use Rattle.text.proofs.WalkEvents.{Beyond, Requested, events-end}
 use Rattle.cells.specs.Cells.{Over, fell, ended, falls, goes, requestMoves, moves, overOf}
 use Rattle.cells.proofs.InForm.{moves-form}
 use Rattle.area.specs.declared.Step.{Step}

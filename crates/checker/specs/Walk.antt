@@ -6,7 +6,7 @@ use Prim.Native.Nat.{ℕ, suc, _≤_, _<_}
 use lib.ListN.{length, drop}
 use Rattle.device.specs.declared.Device.{Device}
 use Rattle.device.specs.WellFormed.{wellFormed}
-use Rattle.job.specs.Text.{firstBad, eventsOf}
+use Rattle.text.specs.Text.{firstBad, eventsOf}
 use Rattle.cells.specs.Cells.{Over, fell, ended, overOf}
 use Rattle.checker.specs.declared.Onward.{Onward}
 use Rattle.checker.specs.declared.Outcome.{Outcome}

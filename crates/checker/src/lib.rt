@@ -9,7 +9,7 @@ ghost use Rattle.board.specs.Layout.{loggerPages, flashBytes, optionBytes};
 ghost use Rattle.device.specs.State.{started};
 ghost use Rattle.device.specs.WellFormed.{wellFormed};
 ghost use Rattle.laws.specs.Lists.{same};
-ghost use Rattle.job.specs.Text.{eventsOf};
+ghost use Rattle.text.specs.Text.{eventsOf};
 ghost use Rattle.job.specs.Calls.{textRefusals};
 ghost use Rattle.verdict.specs.Verdict.{isLeft};
 ghost use Rattle.checker.specs.Walk.{Ahead, Advanced, overAs};
@@ -19,10 +19,10 @@ ghost use Rattle.cells.specs.Cells.{overOf, suspect, lowestFrom, endNumber, end
 use board::Board;
 use device::Device;
 use device::Mode;
-use job::Item;
 use refusal::Admission;
 use refusal::Done;
 use refusal::Refusal;
+use text::Item;
 use verdict::Verdict;
 
 // Can flash offset f be wrong on some board?
@@ -171,7 +171,7 @@ fn advance(board: Board, device: Device, job: &[u8], at: usize, work: &mut [u8])
     requires { ⌜ (length (now work) ≡ workBytes (board .pages)) × (1 ≤ board .pages) × (wellFormed (board .pages) device ≡ true) × Ahead (now job) at × (at < length (now job)) ⌝ }
     ensures { λ r. ⌜ Advanced (board .pages) (now (job .entry)) at device (now (work .entry)) r (now (work .exit)) ⌝ }
 {
-    let item = job::event_at(job, at);
+    let item = text::event_at(job, at);
     match item {
         Item::End => stuck(device, at),
         Item::Bad => stuck(device, at),

@@ -16,10 +16,10 @@ use Rattle.refusal.specs.Order.{firstOf}
 use Rattle.refusal.specs.Delivery.{inNumbers, delivery}
 use Rattle.refusal.proofs.First.{refused-not}
 use Rattle.refusal.proofs.Delivery.{numbers-injective, counted-bytes, counted-refused, delivers-refusal, delivers-eleven, delivers-bytes, delivered-bytes, delivered-own}
-use Rattle.job.specs.Event.{textOf, packedOf}
-use Rattle.job.specs.Text.{limit, firstBad, eventsOf}
+use Rattle.text.specs.Event.{textOf}
+use Rattle.job.specs.Packed.{packedOf, packs, unpacked}
+use Rattle.text.specs.Text.{limit, firstBad, eventsOf}
 use Rattle.job.specs.Ways.{capped, sizeOf}
-use Rattle.job.specs.Packed.{packs, unpacked}
 use Rattle.job.specs.Calls.{textRefusals, measureOf, readOf, packedRefusals, writeRefusals, writeOf}
 use Rattle.job.proofs.Refusals.{text-long, text-good, text-parts, packed-parts, write-refusal, write-long, write-within, write-parts}
 use Rattle.job.proofs.SpellSize.{capped-is, capped-long}

@@ -11,12 +11,12 @@ use Rattle.laws.proofs.Split.{by-bool, and-true}
 use Rattle.request.specs.Setup.{setupOf, dataLength}
 use Rattle.request.proofs.Lengths.{fits-eight, fits-data}
 use Rattle.laws.specs.Lists.{same, allBytes}
-use Rattle.job.specs.Event.{Event, attach, request, fits, inBytes, proper, packOf, packedOf}
-use Rattle.job.specs.Packed.{pieceSize, firstPiece, piecesAfter, eventIn, wellPacked, allPacked, eventsAmong, packs, unpacked}
+use Rattle.text.specs.Event.{Event, attach, request, fits, inBytes, proper}
+use Rattle.job.specs.Packed.{packOf, packedOf, pieceSize, firstPiece, piecesAfter, eventIn, wellPacked, allPacked, eventsAmong, packs, unpacked}
 use Rattle.laws.proofs.Lists.{same-refl, same-eq, bytes-drop, bytes-apart}
-use Rattle.job.proofs.FirstLine.{joined}
-use Rattle.job.proofs.EventText.{proper-parts}
-use Rattle.job.proofs.Formed.{setup-front}
+use Rattle.text.proofs.FirstLine.{joined}
+use Rattle.text.proofs.EventText.{proper-parts}
+use Rattle.text.proofs.Formed.{setup-front}
 
 pub size-some : (p : List ℕ) → 1 ≤ pieceSize p
 unfolding pieceSize

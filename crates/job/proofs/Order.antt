@@ -5,9 +5,9 @@ use mathlib.Core.List.{List}
 use Prim.Native.Nat.{ℕ}
 use Rattle.refusal.specs.Order.{met, before, beforeAll, inOrder}
 use Rattle.refusal.specs.Delivery.{withOutput}
-use Rattle.job.specs.Event.{textOf, packedOf}
-use Rattle.job.specs.Text.{eventsOf}
-use Rattle.job.specs.Packed.{unpacked}
+use Rattle.text.specs.Event.{textOf}
+use Rattle.job.specs.Packed.{packedOf, unpacked}
+use Rattle.text.specs.Text.{eventsOf}
 use Rattle.job.specs.Calls.{textRefusals, writeRefusals}
 
 pub read-in-order : (t out : List ℕ) → inOrder (withOutput (textRefusals t) (packedOf (eventsOf t)) out) ≡ true

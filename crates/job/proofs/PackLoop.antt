@@ -9,12 +9,14 @@ use lib.Seq.{sets}
 use Rattle.laws.specs.Bytes.{put}
 use Rattle.laws.proofs.Bytes.{sets-put, rest-is}
 use Rattle.laws.proofs.Append.{sets-append}
-use Rattle.job.specs.Event.{Event, packOf, packedOf}
-use Rattle.job.specs.Ways.{lineLength, packedSize}
-use Rattle.job.specs.Text.{firstLine, eventOf, wellSpelled, firstBad, eventsOf}
-use Rattle.job.proofs.LineLength.{length-good}
-use Rattle.job.proofs.Walking.{size-packed, turn-packed, turn-total}
-use Rattle.job.proofs.WalkEvents.{Beyond, formed-here, beyond-here, events-end}
+use Rattle.text.specs.Event.{Event}
+use Rattle.job.specs.Packed.{packOf, packedOf}
+use Rattle.text.specs.Ways.{lineLength}
+use Rattle.job.specs.Ways.{packedSize}
+use Rattle.text.specs.Text.{firstLine, eventOf, wellSpelled, firstBad, eventsOf}
+use Rattle.text.proofs.LineLength.{length-good}
+use Rattle.job.proofs.Measuring.{size-packed, turn-packed, turn-total}
+use Rattle.text.proofs.WalkEvents.{Beyond, formed-here, beyond-here, events-end}
 
 module _ (t : List ℕ) (at : ℕ) (more : at < length t) (good : firstBad (drop at t) ≡ 0) where
   -- the first line of what is left, as a callee sees it

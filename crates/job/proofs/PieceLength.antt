@@ -12,11 +12,11 @@ use Rattle.laws.proofs.Bytes.{rest-is}
 use Rattle.laws.proofs.Split.{by-bool, by-lt, and-right-false, and-right-true}
 use Rattle.request.specs.Setup.{setupOf, dataLength, fitsOf}
 use Rattle.laws.specs.Lists.{same}
-use Rattle.job.specs.Event.{fits, packOf}
+use Rattle.text.specs.Event.{fits}
+use Rattle.job.specs.Packed.{packOf, pieceSize, firstPiece, eventIn, wellPacked}
 use Rattle.job.specs.Ways.{pieceLength}
-use Rattle.job.specs.Packed.{pieceSize, firstPiece, eventIn, wellPacked}
 use Rattle.laws.proofs.Lists.{same-refl}
-use Rattle.job.proofs.Formed.{fits-if, setup-front}
+use Rattle.text.proofs.Formed.{fits-if, setup-front}
 
 pub piece-good : (u : List ℕ) → wellPacked (firstPiece u) ≡ true → pieceLength u ≡ length (firstPiece u)
 unfolding pieceLength

@@ -10,8 +10,8 @@ use Rattle.refusal.specs.declared.Refusal.the-variants.{Text, Line, Request}
 use Rattle.refusal.specs.declared.Admission.the-variants.{Admitted, Refused}
 use Rattle.refusal.specs.Order.{firstOf}
 use Rattle.refusal.proofs.First.{first-here, first-on, first-none, first-append, first-exactly}
-use Rattle.job.specs.Event.{textOf}
-use Rattle.job.specs.Text.{limit, firstBad}
+use Rattle.text.specs.Event.{textOf}
+use Rattle.text.specs.Text.{limit, firstBad}
 use Rattle.job.specs.Packed.{packs, unpacked}
 use Rattle.job.specs.Calls.{textRefusals, packedRefusals, writeRefusals}
 

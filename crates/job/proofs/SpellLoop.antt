@@ -13,12 +13,12 @@ use Rattle.laws.proofs.Append.{sets-append}
 use Rattle.laws.proofs.Split.{by-lt}
 use Rattle.request.specs.Setup.{fitsOf}
 use Rattle.request.proofs.Lengths.{fits-eight}
-use Rattle.job.specs.Event.{Event, attach, request, fits, lineOf, textOf}
+use Rattle.text.specs.Event.{Event, attach, request, fits, lineOf, textOf}
 use Rattle.job.specs.Ways.{pieceLength}
 use Rattle.job.specs.Packed.{pieceSize, firstPiece, piecesAfter, eventIn, wellPacked, eventsAmong, packs, unpacked}
 use Rattle.job.proofs.EventPacked.{well-fits}
 use Rattle.job.proofs.SpellSize.{turn-broken, well, piece-is, turn-packs, turn-text}
-use Rattle.job.proofs.SpellLine.{attach-spelled, attach-fits}
+use Rattle.text.proofs.SpellLine.{attach-spelled, attach-fits}
 
 -- the event of a piece, by its kind byte
 in-attach : (l : List ℕ) → getD l 0 0 ≡ 0 → eventIn l ≡ attach

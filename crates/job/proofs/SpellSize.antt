@@ -13,13 +13,11 @@ use Rattle.laws.proofs.Split.{by-bool, by-lt}
 use Rattle.refusal.specs.declared.Refusal.the-variants.{Request}
 use Rattle.request.proofs.Lengths.{fits-eight}
 use Rattle.refusal.specs.declared.Done.the-variants.{Bytes, Refused}
-use Rattle.job.specs.Event.{Event, attach, request, fits, lineOf, textOf, packOf}
-use Rattle.job.specs.Text.{limit}
+use Rattle.text.specs.Event.{Event, attach, request, fits, lineOf, textOf}
+use Rattle.job.specs.Packed.{packOf, pieceSize, firstPiece, piecesAfter, eventIn, wellPacked, allPacked, eventsAmong, packs, unpacked}
+use Rattle.text.specs.Text.{limit}
 use Rattle.job.specs.Ways.{pieceLength, lineSize, capped, sizeOf}
-use Rattle.job.specs.Packed.{pieceSize, firstPiece, piecesAfter, eventIn, wellPacked, allPacked, eventsAmong, packs, unpacked}
-use Rattle.hex.specs.Hex.{hexOf}
-use Rattle.hex.proofs.Fields.{hex-length}
-use Rattle.job.proofs.Spelling.{spelled-size}
+use Rattle.text.proofs.SpellLine.{line-length-of}
 use Rattle.job.proofs.EventPacked.{size-some, pieces-first, well-pack, well-fits}
 use Rattle.job.proofs.PieceLength.{piece-good, piece-bad}
 use Rattle.job.proofs.Refusals.{packed-broken, packed-whole}
@@ -76,16 +74,6 @@ capped-is n m e h =
 
 pub capped-long : (n m : ℕ) → m ≡ capped n → limit < m → limit < n
 capped-long n m e h = by-lt limit n (λ k. k) (λ k. let z : n ≡ capped n = capped-within n k in absurd (omega arith))
-
--- a line's length, from the packed bytes of its event
-pub line-length-of : (q : List ℕ) → 8 ≤ length q → length (lineOf (request q)) ≡ 20 + (length q - 8) * 2
-unfolding lineOf
-line-length-of q h =
-    let l : length (take 8 q) ≡ 8 = length-take-le 8 q h in
-    let d : length (drop 8 q) ≡ length q - 8 = length-drop 8 q in
-    let a : length (hexOf (take 8 q)) ≡ length (take 8 q) * 2 = hex-length (take 8 q) in
-    let b : length (hexOf (drop 8 q)) ≡ length (drop 8 q) * 2 = hex-length (drop 8 q) in
-    spelled-size (hexOf (take 8 q)) (hexOf (drop 8 q)) [] (omega arith) ∙ (let e : 20 + length (hexOf (drop 8 q)) + 0 ≡ 20 + (length q - 8) * 2 = omega arith in e)
 
 attach-length : length (lineOf attach) ≡ 2
 unfolding lineOf

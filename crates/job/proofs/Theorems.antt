@@ -10,12 +10,12 @@ use Rattle.laws.specs.Lists.{allBytes}
 use Rattle.refusal.specs.declared.Refusal.the-variants.{Line}
 use Rattle.refusal.specs.declared.Done.{Done}
 use Rattle.refusal.specs.declared.Done.the-variants.{Bytes, Refused}
-use Rattle.job.specs.Event.{Event, proper, textOf, packedOf}
-use Rattle.job.specs.Text.{limit, linesOf, firstBad, eventsOf}
-use Rattle.job.specs.Packed.{unpacked}
+use Rattle.text.specs.Event.{Event, proper, textOf}
+use Rattle.job.specs.Packed.{packedOf, unpacked}
+use Rattle.text.specs.Text.{limit, linesOf, firstBad, eventsOf}
 use Rattle.refusal.specs.Delivery.{inNumbers, delivery, delivered}
 use Rattle.job.specs.Calls.{textRefusals, measureOf, readOf, writeRefusals, writeOf}
-use Rattle.job.proofs.EventText.{text-clean, text-events, good-text, good-proper, Names, named-from-one}
+use Rattle.text.proofs.EventText.{text-clean, text-events, good-text, good-proper, Names, named-from-one}
 use Rattle.job.proofs.EventPacked.{packed-packs, packed-events, packs-packed, packs-proper}
 use Rattle.refusal.proofs.Delivery.{numbers-injective, delivery-injective, delivers-refusal, delivers-output}
 use Rattle.job.proofs.Refusals.{text-bad, text-good, packed-whole, write-within}

@@ -1,12 +1,22 @@
--- A packed list, taken apart. Document 01, "Job text", last sentence, and "Refusal numbers", last sentence. Assumes nothing.
+-- Packed events: a list of them, and a packed list taken apart. Document 01, "Job text", last sentence, and "Refusal numbers", last sentence. Assumes nothing.
 use mathlib.Core.Bool.{Bool, true, cond, _&&_}
-use mathlib.Core.List.{List, [], _∷_}
+use mathlib.Core.List.{List, [], _∷_, _++_}
 use Prim.Native.Nat.{ℕ, zero, suc, _+_, _-_}
 use lib.Dec.{eqb}
-use lib.ListN.{length, take, drop, getD}
+use lib.ListN.{take, drop, getD}
 use Rattle.request.specs.Setup.{setupOf, dataLength}
 use Rattle.laws.specs.Lists.{same}
-use Rattle.job.specs.Event.{Event, attach, request, fits, packOf}
+use Rattle.text.specs.Event.{Event, attach, request, fits}
+
+-- "a byte 0 for Attach, or a byte 1 and then setup and data"
+unfoldable pub packOf : Event → List ℕ
+packOf attach = 0 ∷ []
+packOf (request q) = 1 ∷ q
+
+-- "In memory a list of events is packed": each event stands behind the one before it
+unfoldable pub packedOf : List Event → List ℕ
+packedOf [] = []
+packedOf (e ∷ es) = packOf e ++ packedOf es
 
 -- how many bytes the event at the front of a packed list asks for: "whose length follows from the setup"
 unfoldable pub pieceSize : List ℕ → ℕ

@@ -7,14 +7,10 @@ use lib.ListN.{length}
 use Rattle.refusal.specs.declared.Done.{Done}
 use Rattle.refusal.specs.Order.{firstOf}
 use Rattle.refusal.specs.Delivery.{counted}
-use Rattle.job.specs.Event.{textOf}
-use Rattle.job.specs.Text.{limit, firstLine, wellSpelled}
+use Rattle.text.specs.Event.{textOf}
+use Rattle.text.specs.Text.{limit}
 use Rattle.job.specs.Packed.{firstPiece, wellPacked, unpacked}
 use Rattle.job.specs.Calls.{packedRefusals}
-
--- how long the first line of a text is; 0 where it is malformed
-unfoldable pub lineLength : List ℕ → ℕ
-lineLength t = cond (wellSpelled (firstLine t)) (length (firstLine t)) 0
 
 -- how many packed bytes the event of a well-formed line of n bytes takes
 unfoldable pub packedSize : ℕ → ℕ

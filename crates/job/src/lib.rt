@@ -1,204 +1,34 @@
-// The job text: read into packed events, written from them, and walked in place.
+// Packed events: read from a text, and written as one.
 use refusal::Done;
 use refusal::Refusal;
 use request::Setup;
 ghost use mathlib.Core.Path.{_≡_};
 ghost use mathlib.Core.Bool.{true};
 ghost use Prim.Native.Nat.{_+_, _*_, _≤_, _<_};
-ghost use lib.ListN.{length, take, drop, getD};
+ghost use lib.ListN.{length, getD};
 ghost use Rattle.laws.specs.Bytes.{put};
-ghost use Rattle.request.specs.Setup.{setupOf, dataLength};
-ghost use Rattle.hex.specs.Hex.{valueOf, byteOf, allDigits, bytesOf};
-ghost use Rattle.job.specs.Event.{request, lineOf, textOf, packOf, packedOf};
-ghost use Rattle.job.specs.Ways.{lineLength, packedSize, pieceLength, lineSize, capped, sizeOf};
-ghost use Rattle.job.specs.Text.{limit, firstLine, eventOf, wellSpelled, firstBad, eventsOf};
-ghost use Rattle.job.specs.Packed.{eventIn, wellPacked, packs, unpacked};
+ghost use Rattle.text.specs.Event.{lineOf, textOf};
+ghost use Rattle.job.specs.Packed.{packOf, packedOf, eventIn, wellPacked, packs, unpacked};
+ghost use Rattle.job.specs.Ways.{packedSize, pieceLength, lineSize, capped, sizeOf};
+ghost use Rattle.text.specs.Text.{limit, firstLine, eventOf, wellSpelled, firstBad, eventsOf};
 ghost use Rattle.refusal.specs.Delivery.{inNumbers, delivery};
-ghost use Rattle.job.specs.Calls.{measureOf, readOf, writeOf, itemOf};
-
-// What stands at a place of a text: its end, a malformed line, or an event with the place of the line after it.
-pub enum Item {
-    End,
-    Bad,
-    Attach {
-        next: usize,
-    },
-    Request {
-        setup: Setup,
-        data: usize,
-        next: usize,
-    },
-}
+ghost use Rattle.job.specs.Calls.{measureOf, readOf, writeOf};
 
 // The most bytes that a text may have.
 pub const LIMIT: usize = 60000;
 
-// The places in a request's line: its setup, the tab behind it, its data; and the length of a line without data.
-const SETUP: usize = 2;
-
-const TAB: usize = 18;
-
-const DATA: usize = 19;
-
-const SHORTEST: usize = 20;
-
-// The bytes of a setup, and of a packed request without data.
-const SETUP_BYTES: usize = 8;
-
+// The bytes of a packed request without data.
 const HEAD: usize = 9;
-
-// The two bytes that four digits spell, low byte first.
-fn word(a: u8, b: u8, c: u8, d: u8) -> u16
-    requires { ⌜ (valueOf a < 16) × (valueOf b < 16) × (valueOf c < 16) × (valueOf d < 16) ⌝ }
-    ensures { λ r. ⌜ r ≡ byteOf a b + byteOf c d * 256 ⌝ }
-{
-    hex::byte(a, b) as u16 + hex::byte(c, d) as u16 * 256
-}
-
-// The setup that 16 digits spell.
-fn setup(field: &[u8]) -> Setup
-    requires { ⌜ (length (now field) ≡ 16) × (allDigits (now field) ≡ true) ⌝ }
-    ensures { λ r. ⌜ r ≡ setupOf (bytesOf (now (field .entry))) ⌝ }
-{
-    let front = hex::four(&field[0..8]);
-    let back = hex::four(&field[8..16]);
-    let bytes = [
-        front[0],
-        front[1],
-        front[2],
-        front[3],
-        back[0],
-        back[1],
-        back[2],
-        back[3],
-    ];
-    Setup::of(&bytes)
-}
-
-// How many bytes of data follow the setup that 16 digits spell. The digits of the length are read only where the kind takes data.
-fn data_length(field: &[u8]) -> usize
-    requires { ⌜ (length (now field) ≡ 16) × (allDigits (now field) ≡ true) ⌝ }
-    ensures { λ r. ⌜ r ≡ dataLength (setupOf (bytesOf (now (field .entry)))) ⌝ }
-{
-    let kind = hex::byte(field[0], field[1]);
-    if asking(kind, 1).data_length() == 0 {
-        return 0;
-    }
-    asking(kind, word(field[12], field[13], field[14], field[15])).data_length()
-}
-
-// A setup of this kind and length: how many data follow depends on nothing else.
-fn asking(kind: u8, length: u16) -> Setup
-    ensures { λ r. ⌜ r ≡ record { kind = kind; code = 0; value = 0; index = 0; length = length } ⌝ }
-{
-    Setup {
-        kind,
-        code: 0,
-        value: 0,
-        index: 0,
-        length,
-    }
-}
-
-// How long the request's line at the front of `rest` is, or 0 where it is malformed.
-fn request_length(rest: &[u8]) -> usize
-    requires { ⌜ getD (now rest) 0 0 ≡ 81 ⌝ }
-    ensures { λ r. ⌜ r ≡ lineLength (now (rest .entry)) ⌝ }
-{
-    if rest.len() < SHORTEST {
-        return 0;
-    }
-    if rest[1] != b'\t' {
-        return 0;
-    }
-    if rest[TAB] != b'\t' {
-        return 0;
-    }
-    if !hex::digits(&rest[SETUP..TAB]) {
-        return 0;
-    }
-    let count = data_length(&rest[SETUP..TAB]);
-    if (rest.len() - SHORTEST) / 2 < count {
-        return 0;
-    }
-    let end = DATA + count * 2;
-    if rest[end] != b'\n' {
-        return 0;
-    }
-    if hex::digits(&rest[DATA..end]) {
-        end + 1
-    } else {
-        0
-    }
-}
-
-// How long the line at the front of `rest` is, or 0 where it is malformed.
-fn line_length(rest: &[u8]) -> usize
-    ensures { λ r. ⌜ (r ≡ lineLength (now (rest .entry))) × (r ≤ length (now (rest .entry))) ⌝ }
-{
-    let kind = buffer::byte_at(rest, 0);
-    match kind {
-        b'A' => {
-            if buffer::byte_at(rest, 1) == b'\n' {
-                return 2;
-            }
-            0
-        }
-        b'Q' => request_length(rest),
-        _ => 0,
-    }
-}
 
 // How many bytes the event of a line of this length takes when packed.
 fn packed_size(line: usize) -> usize
     requires { ⌜ 1 ≤ line ⌝ }
     ensures { λ r. ⌜ (r ≡ packedSize line) × (r ≤ line) ⌝ }
 {
-    if line < SHORTEST {
+    if line < text::SHORTEST {
         return 1;
     }
     line / 2 - 1
-}
-
-// What stands at a place of the text.
-pub fn item_at(text: &[u8], at: usize) -> Item
-    ensures { λ r. ⌜ r ≡ itemOf (now (text .entry)) at ⌝ }
-{
-    if text.len() <= at {
-        return Item::End;
-    }
-    let line = line_length(&text[at..]);
-    if line == 0 {
-        return Item::Bad;
-    }
-    let next = at + line;
-    if line < SHORTEST {
-        return Item::Attach { next };
-    }
-    let asked = setup(&text[at + SETUP..at + TAB]);
-    Item::Request {
-        setup: asked,
-        data: at + DATA,
-        next,
-    }
-}
-
-// The event at a place where the text is known to be well formed. A text that was measured before needs no second look at each digit.
-pub fn event_at(text: &[u8], at: usize) -> Item
-    requires { ⌜ (at < length (now text)) × (wellSpelled (firstLine (drop at (now text))) ≡ true) ⌝ }
-    ensures { λ r. ⌜ r ≡ itemOf (now (text .entry)) at ⌝ }
-{
-    if text[at] == b'A' {
-        return Item::Attach { next: at + 2 };
-    }
-    let asked = setup(&text[at + SETUP..at + TAB]);
-    let data = at + DATA;
-    let end = data + asked.data_length() * 2;
-    Item::Request {
-        setup: asked,
-        data,
-        next: end + 1,
-    }
 }
 
 // The first malformed line, or how many bytes the text's events take when packed: one pass, a line a turn.
@@ -210,7 +40,7 @@ fn scan(text: &[u8]) -> Done
     let mut number = 1;
     let mut size = 0;
     while at < text.len() {
-        let line = line_length(&text[at..]);
+        let line = text::line_length(&text[at..]);
         if line == 0 {
             return Done::Refused(Refusal::Line(number));
         }
@@ -237,10 +67,10 @@ fn pack_request(rest: &[u8], out: &mut [u8], at: usize) -> usize
     ensures { λ r. ⌜ (now (out .exit) ≡ put at (packOf (eventOf (firstLine (now (rest .entry))))) (now (out .entry))) × (r ≡ length (firstLine (now (rest .entry)))) ⌝ }
 {
     out[at] = 1;
-    hex::decode(&rest[SETUP..TAB], out, at + 1);
+    hex::decode(&rest[text::SETUP..text::TAB], out, at + 1);
     let count = Setup::of(&out[at + 1..at + HEAD]).data_length();
-    let end = DATA + count * 2;
-    hex::decode(&rest[DATA..end], out, at + HEAD);
+    let end = text::DATA + count * 2;
+    hex::decode(&rest[text::DATA..end], out, at + HEAD);
     end + 1
 }
 
@@ -357,21 +187,6 @@ fn spelled_size(packed: &[u8]) -> Done
     Done::Bytes(size)
 }
 
-// Writes the line of a request into `out` from place `at` on, and gives its length.
-pub fn write_request(bytes: &[u8], out: &mut [u8], at: usize) -> usize
-    requires { ⌜ (8 ≤ length (now bytes)) × (at + length (lineOf (request (now bytes))) ≤ length (now out)) ⌝ }
-    ensures { λ r. ⌜ (now (out .exit) ≡ put at (lineOf (request (now (bytes .entry)))) (now (out .entry))) × (r ≡ length (lineOf (request (now (bytes .entry))))) ⌝ }
-{
-    let digits = (bytes.len() - SETUP_BYTES) * 2;
-    out[at] = b'Q';
-    out[at + 1] = b'\t';
-    hex::encode(&bytes[0..SETUP_BYTES], out, at + SETUP);
-    out[at + TAB] = b'\t';
-    hex::encode(&bytes[SETUP_BYTES..], out, at + DATA);
-    out[at + DATA + digits] = b'\n';
-    SHORTEST + digits
-}
-
 // Writes the line of a packed event into `out` from place `at` on, and gives its length.
 fn write_piece(piece: &[u8], out: &mut [u8], at: usize) -> usize
     requires { ⌜ (wellPacked (now piece) ≡ true) × (at + length (lineOf (eventIn (now piece))) ≤ length (now out)) ⌝ }
@@ -382,7 +197,7 @@ fn write_piece(piece: &[u8], out: &mut [u8], at: usize) -> usize
         out[at + 1] = b'\n';
         return 2;
     }
-    write_request(&piece[1..], out, at)
+    text::write_request(&piece[1..], out, at)
 }
 
 // Writes the text of a packed list of whole events into `out`.

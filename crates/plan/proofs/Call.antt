@@ -6,8 +6,8 @@ use Prim.Native.Nat.{ℕ, _≤_}
 use lib.ListN.{length}
 use Rattle.refusal.specs.declared.Admission.the-variants.{Admitted}
 use Rattle.laws.specs.Lists.{allBytes}
-use Rattle.job.specs.Text.{limit, firstBad}
-use Rattle.job.proofs.EventText.{text-clean}
+use Rattle.text.specs.Text.{limit, firstBad}
+use Rattle.text.proofs.EventText.{text-clean}
 use Rattle.job.proofs.Refusals.{text-good}
 use Rattle.board.specs.Supply.{supplied}
 use Rattle.verdict.specs.Checked.{workBytes, checkable}

@@ -20,7 +20,7 @@ use Rattle.device.specs.Wire.{isMode}
 use Rattle.device.specs.Table.{allowedOf}
 use Rattle.laws.specs.Lists.{allBytes}
 use Rattle.memory.specs.Flash.{kept, stored}
-use Rattle.job.specs.Event.{Event}
+use Rattle.text.specs.Event.{Event}
 use Rattle.verdict.specs.World.{Fresh}
 use Rattle.verdict.specs.Checked.{workBytes}
 use Rattle.cells.specs.Cells.{blockFrom, known, pageErased, begun, overOf}

@@ -8,8 +8,8 @@ use lib.ListN.{length, replicate, length-replicate}
 use Rattle.board.specs.Layout.{loggerPages, pageBytes, flashBytes, optionBytes}
 use Rattle.refusal.specs.declared.Admission.the-variants as admission
 use Rattle.laws.specs.Lists.{allBytes}
-use Rattle.job.specs.Text.{limit, eventsOf}
-use Rattle.job.proofs.EventText.{text-events}
+use Rattle.text.specs.Text.{limit, eventsOf}
+use Rattle.text.proofs.EventText.{text-events}
 use Rattle.verdict.specs.declared.Verdict.{Verdict}
 use Rattle.verdict.specs.declared.Verdict.the-variants as verdict
 use Rattle.verdict.specs.Verdict.{Judged}

@@ -7,7 +7,7 @@ use lib.Dec.{eqb}
 use lib.ListN.{length}
 use lib.Seq.{sets}
 use Rattle.board.specs.Layout.{pageBytes, flashBytes, pagesOf}
-use Rattle.job.specs.Event.{Event, textOf}
+use Rattle.text.specs.Event.{Event, textOf}
 use Rattle.plan.specs.Plan.{download, polled, pageAddress, erasePage, setPointer, padded, pageOf, leaving, pagesFrom}
 
 -- the lines of an event and of the two GETSTATUS that follow it

@@ -1,6 +1,6 @@
-// A walk over a text by `job::item_at`, and its line.
+// A walk over a text by `text::item_at`, and its line.
 use crate::bytes::mix;
-use job::Item;
+use text::Item;
 
 // Where the walk is, the events that it met, the digest of its items, and whether it is over: 1 at the end, 2 at a malformed line.
 struct Walk {
@@ -31,7 +31,7 @@ fn step(text: &[u8], walk: Walk) -> Walk {
     if walk.over != 0 {
         return walk;
     }
-    let found = job::item_at(text, walk.at);
+    let found = text::item_at(text, walk.at);
     match found {
         Item::End => Walk { over: 1, ..walk },
         Item::Bad => Walk { over: 2, ..walk },

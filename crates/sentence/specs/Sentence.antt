@@ -1,7 +1,7 @@
 -- What a template says with its gaps filled: for the words of programs, and no rule of the paper. Assumes nothing.
 use mathlib.Core.Bool.{cond, _||_}
 use mathlib.Core.List.{List, [], _∷_, _++_}
-use Prim.Native.Nat.{ℕ, suc, _+_, _%_}
+use Prim.Native.Nat.{ℕ, _+_, _%_}
 use lib.Dec.{eqb, ltb}
 use lib.ListN.{drop, getD}
 use Rattle.hex.specs.Hex.{hexOf}

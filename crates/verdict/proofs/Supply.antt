@@ -11,7 +11,7 @@ use Rattle.refusal.specs.Order.{firstOf}
 use Rattle.refusal.proofs.First.{first-here, first-on, then, first-append, append-parts, first-exactly}
 use Rattle.board.specs.Supply.{supplyRefusals, supplied}
 use Rattle.board.proofs.Supply.{Supplied, supplied-parts}
-use Rattle.job.specs.Text.{limit, firstBad}
+use Rattle.text.specs.Text.{limit, firstBad}
 use Rattle.job.specs.Calls.{textRefusals}
 use Rattle.job.proofs.Refusals.{text-parts}
 use Rattle.verdict.specs.Checked.{workBytes, checkRefusals, checkable}

@@ -11,8 +11,8 @@ use Rattle.board.specs.Layout.{flashFirst, flashBytes}
 use Rattle.refusal.specs.declared.Refusal.{Refusal}
 use Rattle.refusal.specs.declared.Admission.the-variants as admission
 use Rattle.refusal.specs.declared.Done.{Done}
-use Rattle.job.specs.Event.{Event}
-use Rattle.job.specs.Text.{eventsOf}
+use Rattle.text.specs.Event.{Event}
+use Rattle.text.specs.Text.{eventsOf}
 use Rattle.refusal.specs.Delivery.{delivery, delivered}
 use Rattle.refusal.proofs.First.{by-admission, First, first-exactly}
 use Rattle.refusal.proofs.Delivery.{delivery-injective}

@@ -13,7 +13,7 @@ use Rattle.refusal.specs.Order.{firstOf}
 use Rattle.board.specs.Layout.{memoryBytes}
 use Rattle.board.specs.Supply.{supplyRefusals}
 use Rattle.request.specs.Request.{transferBytes}
-use Rattle.job.specs.Text.{eventsOf}
+use Rattle.text.specs.Text.{eventsOf}
 use Rattle.job.specs.Calls.{textRefusals}
 use Rattle.verdict.specs.declared.Verdict.{Verdict}
 use Rattle.verdict.specs.declared.Verdict.the-variants as verdict

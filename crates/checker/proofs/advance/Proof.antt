@@ -1,7 +1,7 @@
 -- `checker::advance` meets its contract. Assumes nothing.
 use mathlib.Core.Path.{ap, _∙_, sym}
 use native.Mathlib.Omega.{arith}
-use Rattle.job.proofs.WalkEvents.{formed-here, item-tells}
+use Rattle.text.proofs.WalkEvents.{formed-here, item-tells}
 use Rattle.checker.specs.declared.Onward.{Onward}
 use Rattle.checker.proofs.Advancing.{attach-advanced, request-fallen, request-further}
 use borrow.Author.Needs.{needs}

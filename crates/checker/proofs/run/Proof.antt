@@ -8,7 +8,7 @@ use Rattle.device.specs.State.{started}
 use Rattle.device.specs.WellFormed.{wellFormed}
 use Rattle.device.proofs.Form.{well-formed}
 use Rattle.loader.proofs.Form.{started-form}
-use Rattle.job.specs.Text.{eventsOf}
+use Rattle.text.specs.Text.{eventsOf}
 use Rattle.verdict.specs.Checked.{workBytes}
 use Rattle.cells.specs.Cells.{overOf}
 use Rattle.checker.specs.Walk.{Ahead}

@@ -1,5 +1,5 @@
 -- `job::measure` meets its contract. Assumes nothing.
-use Rattle.job.proofs.Walking.{measure-long}
+use Rattle.job.proofs.Measuring.{measure-long}
 use Rattle.refusal.specs.Delivery.{inNumbers}
 use mathlib.Core.Path.{ap}
 use borrow.Author.Needs.{needs}

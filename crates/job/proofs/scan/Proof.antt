@@ -1,8 +1,9 @@
 -- `job::scan` meets its contract. Assumes nothing.
 use native.Mathlib.Omega.{arith}
-use Rattle.job.proofs.Walking.{turn-bad, turn-good, walk-bad, walk-end, turn-total}
-use Rattle.job.specs.Text.{linesOf, badFrom, firstBad, eventsOf}
-use Rattle.job.specs.Event.{packedOf}
+use Rattle.text.proofs.Walking.{turn-bad, turn-good}
+use Rattle.job.proofs.Measuring.{walk-bad, walk-end, turn-total}
+use Rattle.text.specs.Text.{linesOf, badFrom, firstBad, eventsOf}
+use Rattle.job.specs.Packed.{packedOf}
 use borrow.Author.Needs.{needs}
 use lib.ListN.{length, drop}
 use Prim.Native.Nat.{_+_, _-_, _≤_}

@@ -3,7 +3,7 @@ use native.Mathlib.Omega.{arith}
 use borrow.Author.Needs.{needs}
 use Rattle.job.proofs.SpellLoop.{next-some, next-well, next-packs, next-room, next-total, next-laid, spell-end}
 use Rattle.job.specs.Packed.{packs, unpacked}
-use Rattle.job.specs.Event.{textOf}
+use Rattle.text.specs.Event.{textOf}
 use lib.Seq.{sets}
 use lib.ListN.{length, drop}
 use Prim.Native.Nat.{_+_, _-_, _≤_, _<_}

@@ -4,8 +4,8 @@ use borrow.Author.Needs.{needs}
 use Rattle.job.proofs.SpellSize.{turn-broken, turn-packs, turn-capped, size-broken, size-end}
 use Rattle.job.specs.Ways.{capped}
 use Rattle.job.specs.Packed.{packs, unpacked}
-use Rattle.job.specs.Text.{limit}
-use Rattle.job.specs.Event.{textOf}
+use Rattle.text.specs.Text.{limit}
+use Rattle.text.specs.Event.{textOf}
 use lib.ListN.{length, drop}
 use Prim.Native.Nat.{_+_, _-_, _≤_}
 use mathlib.Core.Path.{_≡_, refl, sym, ap, _∙_}

@@ -1,4 +1,4 @@
--- `job::data_length` meets its contract. Assumes nothing.
+-- `text::data_length` meets its contract. Assumes nothing.
 use mathlib.Core.Path.{ap, _∙_, sym}
 use Prim.Native.Nat.{ℕ, _<_}
 use native.Mathlib.Omega.{arith}
@@ -6,10 +6,10 @@ use lib.ListN.{getD}
 use Rattle.hex.specs.Hex.{valueOf}
 use Rattle.hex.proofs.Fields.{digit-at}
 use Rattle.request.specs.declared.Setup.{Setup}
-use Rattle.job.proofs.Fields.{length-fields, length-none}
+use Rattle.text.proofs.Fields.{length-fields, length-none}
 use borrow.Author.Needs.{needs}
-use Rattle.job.proofs.data_length.Statement.{statement}
-use Rattle.job.proofs.data_length.Tie as tie
+use Rattle.text.proofs.data_length.Statement.{statement}
+use Rattle.text.proofs.data_length.Tie as tie
 
 shared-slice-read-byte : tie.Need-shared-slice-read-byte
 shared-slice-read-byte c = search needs

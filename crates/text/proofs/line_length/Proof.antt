@@ -1,9 +1,9 @@
--- `job::line_length` meets its contract. Assumes nothing.
-use Rattle.job.proofs.LineLength.{attach-line, no-attach, other-kind, length-and-bound}
+-- `text::line_length` meets its contract. Assumes nothing.
+use Rattle.text.proofs.LineLength.{attach-line, no-attach, other-kind, length-and-bound}
 use mathlib.Core.Path.{sym, _∙_}
 use borrow.Author.Needs.{needs}
-use Rattle.job.proofs.line_length.Statement.{statement}
-use Rattle.job.proofs.line_length.Tie as tie
+use Rattle.text.proofs.line_length.Statement.{statement}
+use Rattle.text.proofs.line_length.Tie as tie
 
 byte-at-requires : tie.Need-byte-at-requires
 byte-at-requires c κs = search needs

@@ -9,12 +9,12 @@ use lib.Seq.{length-take-le}
 use Rattle.laws.proofs.Split.{by-bool}
 use Rattle.request.specs.Setup.{setupOf, dataLength}
 use Rattle.hex.specs.Hex.{bytesOf, allDigits}
-use Rattle.job.specs.Event.{attach}
-use Rattle.job.specs.Ways.{lineLength}
-use Rattle.job.specs.Text.{firstLine, eventOf, wellSpelled}
-use Rattle.job.proofs.Spelling.{Spells, spells-field, is-spelled}
-use Rattle.job.proofs.FirstLine.{first-rest, first-kind, first-length, first-attach}
-use Rattle.job.proofs.Formed.{formed-attach, attach-line-formed, event-attach, fits-if, setup-front, Asks, asks, asks-facts, asks-formed, asks-size, asks-length, asks-setup, asks-data, asks-digits, asks-body}
+use Rattle.text.specs.Event.{attach}
+use Rattle.text.specs.Ways.{lineLength}
+use Rattle.text.specs.Text.{firstLine, eventOf, wellSpelled}
+use Rattle.text.proofs.Spelling.{Spells, spells-field, is-spelled}
+use Rattle.text.proofs.FirstLine.{first-rest, first-kind, first-length, first-attach}
+use Rattle.text.proofs.Formed.{formed-attach, attach-line-formed, event-attach, fits-if, setup-front, Asks, asks, asks-facts, asks-formed, asks-size, asks-length, asks-setup, asks-data, asks-digits, asks-body}
 
 pub length-good : (u : List ℕ) → wellSpelled (firstLine u) ≡ true → lineLength u ≡ length (firstLine u)
 unfolding lineLength

@@ -12,12 +12,12 @@ use Rattle.laws.proofs.Split.{by-bool, and-true}
 use Rattle.request.proofs.Lengths.{fits-eight}
 use Rattle.hex.specs.Hex.{hexOf}
 use Rattle.hex.proofs.Fields.{digits-hex}
-use Rattle.job.specs.Event.{Event, attach, request, fits, inBytes, proper, lineOf, textOf}
-use Rattle.job.specs.Text.{firstLine, onto, linesOf, eventOf, wellSpelled, badFrom, firstBad, eventsIn, eventsOf}
-use Rattle.job.proofs.Spelling.{spells-hex, spelled}
+use Rattle.text.specs.Event.{Event, attach, request, fits, inBytes, proper, lineOf, textOf}
+use Rattle.text.specs.Text.{firstLine, onto, linesOf, eventOf, wellSpelled, badFrom, firstBad, eventsIn, eventsOf}
+use Rattle.text.proofs.Spelling.{spells-hex, spelled}
 use Rattle.laws.proofs.Lists.{bytes-take, bytes-drop}
-use Rattle.job.proofs.FirstLine.{first-spelled, lines-first, joined}
-use Rattle.job.proofs.Formed.{formed-fits, formed-line, well-spelled, event-spelled, event-bytes}
+use Rattle.text.proofs.FirstLine.{first-spelled, lines-first, joined}
+use Rattle.text.proofs.Formed.{formed-fits, formed-line, well-spelled, event-spelled, event-bytes}
 
 -- the line of an event that fits gives the event back
 line-event : (e : Event) → fits e ≡ true → inBytes e ≡ true → eventOf (lineOf e) ≡ e

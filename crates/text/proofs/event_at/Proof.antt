@@ -1,11 +1,11 @@
--- `job::event_at` meets its contract. Assumes nothing.
+-- `text::event_at` meets its contract. Assumes nothing.
 use native.Mathlib.Omega.{arith}
 use Prim.Native.Nat.{_+_, _*_, _≤_}
 use lib.ListN.{length}
-use Rattle.job.proofs.Known.{known-attach, known-setup, known-digits, known-room, known-request}
+use Rattle.text.proofs.Known.{known-attach, known-setup, known-digits, known-room, known-request}
 use borrow.Author.Needs.{needs}
-use Rattle.job.proofs.event_at.Statement.{statement}
-use Rattle.job.proofs.event_at.Tie as tie
+use Rattle.text.proofs.event_at.Statement.{statement}
+use Rattle.text.proofs.event_at.Tie as tie
 
 -- the line of a request lies in the text
 room : (c : tie.After-data-length) → c .before .before .before .before .before .before .args .at + 20 + c .data-length .result * 2 ≤ length (c .before .before .before .before .before .before .args .text .now)

@@ -1,8 +1,8 @@
--- `job::item_at` meets its contract. Assumes nothing.
-use Rattle.job.proofs.Walking.{item-end, item-bad, item-attach, item-request, item-digits}
+-- `text::item_at` meets its contract. Assumes nothing.
+use Rattle.text.proofs.Walking.{item-end, item-bad, item-attach, item-request, item-digits}
 use borrow.Author.Needs.{needs}
-use Rattle.job.proofs.item_at.Statement.{statement}
-use Rattle.job.proofs.item_at.Tie as tie
+use Rattle.text.proofs.item_at.Statement.{statement}
+use Rattle.text.proofs.item_at.Tie as tie
 
 returns : tie.Need-returns
 returns c = item-end _ _ (c .if1 .taken)

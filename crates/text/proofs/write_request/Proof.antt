@@ -1,11 +1,11 @@
--- `job::write_request` meets its contract. Assumes nothing.
-use Rattle.job.proofs.SpellLine.{request-room, request-spelled}
+-- `text::write_request` meets its contract. Assumes nothing.
+use Rattle.text.proofs.SpellLine.{request-room, request-spelled}
 use lib.ListN.{length, length-set}
 use Prim.Native.Nat.{_+_, _-_, _*_, _≤_}
 use native.Mathlib.Omega.{arith}
 use borrow.Author.Needs.{needs}
-use Rattle.job.proofs.write_request.Statement.{statement}
-use Rattle.job.proofs.write_request.Tie as tie
+use Rattle.text.proofs.write_request.Statement.{statement}
+use Rattle.text.proofs.write_request.Tie as tie
 
 room : (c : tie.Start) → c .args .at + 20 + (length (c .args .bytes .now) - 8) * 2 ≤ length (c .args .out .now)
 room c = request-room _ _ _ (c .pre .0) (c .pre .1)

@@ -10,13 +10,13 @@ use Rattle.laws.proofs.Bytes.{rest-is}
 use Rattle.request.specs.Setup.{setupOf, dataLength}
 use Rattle.request.specs.declared.Setup.{Setup}
 use Rattle.hex.specs.Hex.{allDigits, bytesOf}
-use Rattle.job.specs.declared.Item.the-variants as item
-use Rattle.job.specs.Ways.{lineLength}
-use Rattle.job.specs.Text.{firstLine, wellSpelled}
-use Rattle.job.specs.Calls.{itemOf}
-use Rattle.job.proofs.Formed.{Asks, asks, asks-size, asks-length, asks-digits, asks-data}
-use Rattle.job.proofs.LineLength.{length-good, attaches}
-use Rattle.job.proofs.Walking.{setup-here, setup-asked, item-attach, item-request}
+use Rattle.text.specs.declared.Item.the-variants as item
+use Rattle.text.specs.Ways.{lineLength}
+use Rattle.text.specs.Text.{firstLine, wellSpelled}
+use Rattle.text.specs.Walk.{itemOf}
+use Rattle.text.proofs.Formed.{Asks, asks, asks-size, asks-length, asks-digits, asks-data}
+use Rattle.text.proofs.LineLength.{length-good, attaches}
+use Rattle.text.proofs.Walking.{setup-here, setup-asked, item-attach, item-request}
 
 pub kind-here : (t : List ℕ) (at : ℕ) → getD (drop at t) 0 0 ≡ getD t at 0
 kind-here t at = let e : at + 0 ≡ at = omega arith in getD-drop at t 0 0 ∙ ap (λ (i : ℕ). getD t i 0) e

@@ -1,29 +1,26 @@
 -- A walk over a text, line by line: what one turn of it does. Assumes nothing.
 use mathlib.Core.Path.{_≡_, ap, ap₂, _∙_, sym}
 use mathlib.Core.Bool.{true, false}
-use mathlib.Core.List.{List, [], _∷_, _++_}
-use Prim.Native.Nat.{ℕ, suc, _+_, _-_, _*_, _/_, _≤_, _<_}
+use mathlib.Core.List.{List, _∷_, _++_}
+use Prim.Native.Nat.{ℕ, _+_, _-_, _≤_, _<_}
 use native.Mathlib.Omega.{arith}
 use native.Mathlib.Numerals.{add-one}
-use lib.ListN.{length, take, drop, getD, length-append, length-drop, drop-of-length-le}
+use lib.ListN.{length, take, drop, getD, length-drop}
 use lib.Seq.{drop-drop}
-use borrow.Author.Tests.{lt-leb, le-leb, lt-ltb, le-ltb}
+use borrow.Author.Tests.{lt-leb, le-leb}
 use Rattle.laws.proofs.Bytes.{rest-is}
-use Rattle.laws.proofs.Split.{by-bool, by-eq, by-lt}
+use Rattle.laws.proofs.Split.{by-bool, by-eq}
 use Rattle.request.specs.Setup.{setupOf}
 use Rattle.request.specs.declared.Setup.{Setup}
 use Rattle.hex.specs.Hex.{allDigits, bytesOf}
-use Rattle.refusal.specs.declared.Refusal.the-variants.{Text, Line}
-use Rattle.refusal.specs.declared.Done.the-variants.{Bytes, Refused}
-use Rattle.job.specs.declared.Item.the-variants as item
-use Rattle.job.specs.Event.{Event, attach, request, packOf, packedOf}
-use Rattle.job.specs.Ways.{lineLength, packedSize}
-use Rattle.job.specs.Text.{limit, firstLine, linesOf, eventOf, wellSpelled, badFrom, firstBad, eventsIn, eventsOf}
-use Rattle.job.specs.Calls.{measureOf, itemFor, itemOf}
-use Rattle.job.proofs.FirstLine.{first-some, lines-first}
-use Rattle.job.proofs.Formed.{Asks, asks, asks-event, asks-length, asks-setup, asks-whole, asks-digits}
-use Rattle.job.proofs.LineLength.{length-good, length-bad, Attaches, attaches}
-use Rattle.job.proofs.Refusals.{text-long, text-bad, text-good}
+use Rattle.text.specs.declared.Item.the-variants as item
+use Rattle.text.specs.Event.{Event, attach, request}
+use Rattle.text.specs.Ways.{lineLength}
+use Rattle.text.specs.Text.{firstLine, linesOf, eventOf, wellSpelled, badFrom, eventsIn, eventsOf}
+use Rattle.text.specs.Walk.{itemFor, itemOf}
+use Rattle.text.proofs.FirstLine.{first-some, lines-first}
+use Rattle.text.proofs.Formed.{Asks, asks, asks-event, asks-length, asks-setup, asks-whole, asks-digits}
+use Rattle.text.proofs.LineLength.{length-good, length-bad, Attaches, attaches}
 
 -- a length that is not 0 is that of a well-formed line
 formed-if : (u : List ℕ) → (lineLength u ≡ 0 → ⊥) → wellSpelled (firstLine u) ≡ true
@@ -45,25 +42,11 @@ pub setup-asked : (t : List ℕ) (at : ℕ) (x : Asks (drop at t)) (s : Setup) �
 setup-asked t at x s e = e ∙ ap (λ (d : List ℕ). setupOf (bytesOf d)) (setup-here t at) ∙ ap setupOf (asks-setup x)
 
 -- by its length a line is of `A` or of `Q`
-short-attaches : (u : List ℕ) → wellSpelled (firstLine u) ≡ true → length (firstLine u) < 20 → Attaches u
+pub short-attaches : (u : List ℕ) → wellSpelled (firstLine u) ≡ true → length (firstLine u) < 20 → Attaches u
 short-attaches u h l = by-eq (getD u 0 0) 65 (attaches u h) (λ n. let x = asks u h n in let s = asks-length x in absurd (omega arith))
 
-long-asks : (u : List ℕ) → wellSpelled (firstLine u) ≡ true → 20 ≤ length (firstLine u) → Asks u
+pub long-asks : (u : List ℕ) → wellSpelled (firstLine u) ≡ true → 20 ≤ length (firstLine u) → Asks u
 long-asks u h l = by-eq (getD u 0 0) 65 (λ k. let s = ap length (attaches u h k .first) in absurd (omega arith)) (asks u h)
-
--- how many bytes the event of the first line packs into
-pub size-packed : (u : List ℕ) → wellSpelled (firstLine u) ≡ true → length (packOf (eventOf (firstLine u))) ≡ packedSize (length (firstLine u))
-unfolding packedSize packOf
-size-packed u h =
-    by-lt (length (firstLine u)) 20
-    (λ l. rw (lt-ltb (length (firstLine u)) 20 l, short-attaches u h l .event))
-    (λ l.
-    let x = long-asks u h l in
-    let s : length (firstLine u) ≡ 20 + length (x .b) * 2 = asks-length x in
-    let w = x .whole in
-    let m : length (x .a ++ x .b) ≡ length (x .a) + length (x .b) = length-append (x .a) (x .b) in
-    let e : suc (length (x .a ++ x .b)) ≡ length (firstLine u) / 2 - 1 = omega arith in
-    rw (le-ltb (length (firstLine u)) 20 l, asks-event x) e)
 
 pub some-left : (t : List ℕ) (at : ℕ) → at < length t → 0 < length (drop at t)
 some-left t at more = simp length-drop (omega arith)
@@ -89,10 +72,10 @@ module _ (t : List ℕ) (at line : ℕ) (more : at < length t) (is : line ≡ li
 
   -- a turn at a well-formed line
   module _ (nonzero : line ≡ 0 → ⊥) where
-    formed : wellSpelled (firstLine (drop at t)) ≡ true
+    pub formed : wellSpelled (firstLine (drop at t)) ≡ true
     formed = formed-if (drop at t) (λ z. nonzero (left-is ∙ z))
 
-    line-is : line ≡ length (firstLine (drop at t))
+    pub line-is : line ≡ length (firstLine (drop at t))
     line-is = left-is ∙ length-good (drop at t) formed
 
     lines : linesOf (drop at t) ≡ firstLine (drop at t) ∷ linesOf (drop (at + line) t)
@@ -102,25 +85,9 @@ module _ (t : List ℕ) (at line : ℕ) (more : at < length t) (is : line ≡ li
     unfolding badFrom
     turn-good number = rw (lines, formed, add-one number)
 
-    turn-events : eventsOf (drop at t) ≡ eventOf (firstLine (drop at t)) ∷ eventsOf (drop (at + line) t)
+    pub turn-events : eventsOf (drop at t) ≡ eventOf (firstLine (drop at t)) ∷ eventsOf (drop (at + line) t)
     unfolding eventsOf eventsIn
     turn-events = rw lines
-
-    pub turn-packed : packedOf (eventsOf (drop at t)) ≡ packOf (eventOf (firstLine (drop at t))) ++ packedOf (eventsOf (drop (at + line) t))
-    unfolding packedOf
-    turn-packed = rw turn-events
-
-    turn-size : (n : ℕ) → n ≡ packedSize line → length (packedOf (eventsOf (drop at t))) ≡ n + length (packedOf (eventsOf (drop (at + line) t)))
-    turn-size n e =
-        let z : length (packOf (eventOf (firstLine (drop at t)))) ≡ n = size-packed (drop at t) formed ∙ ap packedSize (sym line-is) ∙ sym e in
-        ap length turn-packed
-        ∙ length-append (packOf (eventOf (firstLine (drop at t)))) (packedOf (eventsOf (drop (at + line) t)))
-        ∙ ap (λ (k : ℕ). k + length (packedOf (eventsOf (drop (at + line) t)))) z
-
-    pub turn-total : (n size total : ℕ) → n ≡ packedSize line → size + length (packedOf (eventsOf (drop at t))) ≡ total → size + n + length (packedOf (eventsOf (drop (at + line) t))) ≡ total
-    turn-total n size total e s =
-        let k : length (packedOf (eventsOf (drop at t))) ≡ n + length (packedOf (eventsOf (drop (at + line) t))) = turn-size n e in
-        omega arith
 
     item-is : (e : Event) → eventOf (firstLine (drop at t)) ≡ e → itemFor at line e ≡ itemOf t at
     unfolding itemOf
@@ -148,23 +115,3 @@ module _ (t : List ℕ) (at line : ℕ) (more : at < length t) (is : line ≡ li
 pub item-end : (t : List ℕ) (at : ℕ) → length t ≤ at → item.End ≡ itemOf t at
 unfolding itemOf
 item-end t at h = rw (le-leb (length t) at h)
-
--- the end of a walk that has found no malformed line, and of one that has
-pub walk-end : (t : List ℕ) (at number size : ℕ) → length t ≤ limit → length t ≤ at → badFrom number (linesOf (drop at t)) ≡ firstBad t → size + length (packedOf (eventsOf (drop at t))) ≡ length (packedOf (eventsOf t)) → Bytes size ≡ measureOf t
-unfolding measureOf badFrom linesOf packedOf eventsOf eventsIn
-walk-end t at number size short h b s =
-    let d : drop at t ≡ [] = drop-of-length-le t h in
-    let z : 0 ≡ firstBad t = rw d at b in
-    let n : size + 0 ≡ length (packedOf (eventsIn (linesOf t))) = rw d at s in
-    let k : size ≡ length (packedOf (eventsIn (linesOf t))) = omega arith in
-    rw (text-good t short (sym z)) (ap Bytes k)
-
-pub walk-bad : (t : List ℕ) (number : ℕ) → length t ≤ limit → 1 ≤ number → number ≡ firstBad t → Refused (Line number) ≡ measureOf t
-unfolding measureOf
-walk-bad t number short h e =
-    let n : firstBad t ≡ 0 → ⊥ = λ z. omega arith in
-    rw (text-bad t short n) (ap (λ (k : ℕ). Refused (Line k)) e)
-
-pub measure-long : (t : List ℕ) → limit < length t → Refused Text ≡ measureOf t
-unfolding measureOf
-measure-long t h = rw (text-long t h)

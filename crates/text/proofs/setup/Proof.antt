@@ -1,12 +1,12 @@
--- `job::setup` meets its contract. Assumes nothing.
+-- `text::setup` meets its contract. Assumes nothing.
 use mathlib.Core.Path.{_∙_}
 use native.Mathlib.Omega.{arith}
 use lib.ListN.{length-take, length-drop}
 use Rattle.hex.proofs.Fields.{digits-take, digits-drop}
-use Rattle.job.proofs.Fields.{setup-halves}
+use Rattle.text.proofs.Fields.{setup-halves}
 use borrow.Author.Needs.{needs}
-use Rattle.job.proofs.setup.Statement.{statement}
-use Rattle.job.proofs.setup.Tie as tie
+use Rattle.text.proofs.setup.Statement.{statement}
+use Rattle.text.proofs.setup.Tie as tie
 
 sub-four : tie.Need-sub-four
 sub-four c = search needs

@@ -10,17 +10,17 @@ use Rattle.laws.proofs.Split.{by-eq, by-lt}
 use Rattle.request.specs.Setup.{setupOf, dataLength}
 use Rattle.request.specs.declared.Setup.{Setup}
 use Rattle.hex.specs.Hex.{allDigits, bytesOf}
-use Rattle.job.specs.declared.Item.{Item}
-use Rattle.job.specs.declared.Item.the-variants as item
-use Rattle.job.specs.Event.{Event, attach, request}
-use Rattle.job.specs.Text.{firstLine, linesOf, eventOf, wellSpelled, badFrom, firstBad, eventsIn, eventsOf}
-use Rattle.job.specs.Calls.{itemOf}
-use Rattle.job.proofs.FirstLine.{first-some, first-length}
-use Rattle.job.proofs.Formed.{asks-event, asks-length, asks-whole, asks-body, asks-spells}
-use Rattle.job.proofs.LineLength.{attaches}
-use Rattle.job.proofs.Walking.{some-left, lines-here, setup-asked, item-end}
-use Rattle.job.proofs.Known.{kind-here, known-attach, line-asks, counted, known-request}
-use Rattle.job.proofs.EventText.{good-first, bad-none}
+use Rattle.text.specs.declared.Item.{Item}
+use Rattle.text.specs.declared.Item.the-variants as item
+use Rattle.text.specs.Event.{Event, attach, request}
+use Rattle.text.specs.Text.{firstLine, linesOf, eventOf, wellSpelled, badFrom, firstBad, eventsIn, eventsOf}
+use Rattle.text.specs.Walk.{itemOf}
+use Rattle.text.proofs.FirstLine.{first-some, first-length}
+use Rattle.text.proofs.Formed.{asks-event, asks-length, asks-whole, asks-body, asks-spells}
+use Rattle.text.proofs.LineLength.{attaches}
+use Rattle.text.proofs.Walking.{some-left, lines-here, setup-asked, item-end}
+use Rattle.text.proofs.Known.{kind-here, known-attach, line-asks, counted, known-request}
+use Rattle.text.proofs.EventText.{good-first, bad-none}
 
 -- the event e stands at a place, and no line is malformed from the end of its line on
 pub record Beyond (t : List ℕ) (at : ℕ) (e : Event) (next : ℕ) : Type 0 where

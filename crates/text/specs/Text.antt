@@ -6,7 +6,7 @@ use lib.Dec.{eqb}
 use lib.ListN.{length, take, drop, getD}
 use Rattle.hex.specs.Hex.{bytesOf}
 use Rattle.laws.specs.Lists.{same}
-use Rattle.job.specs.Event.{Event, attach, request, fits, lineOf}
+use Rattle.text.specs.Event.{Event, attach, request, fits, lineOf}
 
 -- "At most 60,000 bytes"
 abbrev pub limit : ℕ

@@ -1,4 +1,4 @@
--- Events, their lines and their packed bytes. Document 01, "Events" and "Job text". Assumes nothing.
+-- Events and their lines. Document 01, "Events" and "Job text". Assumes nothing.
 use mathlib.Core.Bool.{Bool, true, _&&_}
 use mathlib.Core.List.{List, [], _∷_, _++_}
 use Prim.Native.Nat.{ℕ}
@@ -36,13 +36,3 @@ lineOf (request q) = 81 ∷ 9 ∷ (hexOf (take 8 q) ++ (9 ∷ (hexOf (drop 8 q) 
 unfoldable pub textOf : List Event → List ℕ
 textOf [] = []
 textOf (e ∷ es) = lineOf e ++ textOf es
-
--- "a byte 0 for Attach, or a byte 1 and then setup and data"
-unfoldable pub packOf : Event → List ℕ
-packOf attach = 0 ∷ []
-packOf (request q) = 1 ∷ q
-
--- "In memory a list of events is packed": each event stands behind the one before it
-unfoldable pub packedOf : List Event → List ℕ
-packedOf [] = []
-packedOf (e ∷ es) = packOf e ++ packedOf es

@@ -14,11 +14,11 @@ use Rattle.request.proofs.Lengths.{fits-eight, fits-data}
 use Rattle.hex.specs.Hex.{hexOf, bytesOf, allDigits}
 use Rattle.hex.proofs.Fields.{hex-length, bytes-are, digits-hex}
 use Rattle.laws.specs.Lists.{same, allBytes}
-use Rattle.job.specs.Event.{Event, attach, request, fits, lineOf, inBytes}
-use Rattle.job.specs.Text.{firstLine, eventOf, wellSpelled}
-use Rattle.job.proofs.Spelling.{Spells, spells-field, hex-spells, spelled, Spelled, spelled-here}
+use Rattle.text.specs.Event.{Event, attach, request, fits, lineOf, inBytes}
+use Rattle.text.specs.Text.{firstLine, eventOf, wellSpelled}
+use Rattle.text.proofs.Spelling.{Spells, spells-field, hex-spells, spelled, Spelled, spelled-here}
 use Rattle.laws.proofs.Lists.{same-refl, same-eq, bytes-append}
-use Rattle.job.proofs.FirstLine.{first-rest, first-kind, first-spelled}
+use Rattle.text.proofs.FirstLine.{first-rest, first-kind, first-spelled}
 
 -- a well-formed line is the line of its event, and this event fits; and what is so is well formed
 pub formed-fits : (l : List ℕ) → wellSpelled l ≡ true → fits (eventOf l) ≡ true

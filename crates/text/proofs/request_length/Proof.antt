@@ -1,13 +1,13 @@
--- `job::request_length` meets its contract. Assumes nothing.
-use Rattle.job.proofs.LineLength.{too-short, no-tab, no-second-tab, no-setup, data-short, no-end, no-data, request-line}
+-- `text::request_length` meets its contract. Assumes nothing.
+use Rattle.text.proofs.LineLength.{too-short, no-tab, no-second-tab, no-setup, data-short, no-end, no-data, request-line}
 use Rattle.hex.specs.Hex.{bytesOf}
 use Rattle.request.specs.Setup.{setupOf, dataLength}
 use lib.ListN.{take, drop}
 use borrow.Author.Tests.{not-true, not-false}
 use mathlib.Core.Path.{_≡_, refl, sym, _∙_}
 use borrow.Author.Needs.{needs}
-use Rattle.job.proofs.request_length.Statement.{statement}
-use Rattle.job.proofs.request_length.Tie as tie
+use Rattle.text.proofs.request_length.Statement.{statement}
+use Rattle.text.proofs.request_length.Tie as tie
 
 -- how much data the setup asks for
 asked : (c : tie.After-data-length) → c .data-length .result ≡ dataLength (setupOf (bytesOf (take 16 (drop 2 (c .before .before .before .before .before .before .before .before .before .before .before .args .rest .now)))))

@@ -11,8 +11,8 @@ use Rattle.laws.proofs.Split.{by-bool}
 use Rattle.hex.specs.Hex.{allDigits}
 use Rattle.hex.proofs.OneDigit.{digit-above}
 use Rattle.hex.proofs.Fields.{digits-cons}
-use Rattle.job.specs.Text.{firstLine, onto, linesOf}
-use Rattle.job.proofs.Spelling.{spelled}
+use Rattle.text.specs.Text.{firstLine, onto, linesOf}
+use Rattle.text.proofs.Spelling.{spelled}
 
 -- lists, one after the other
 unfoldable pub joined : List (List ℕ) → List ℕ

@@ -11,8 +11,18 @@ use Rattle.laws.proofs.Bytes.{sets-put, rest-is}
 use Rattle.laws.proofs.Append.{sets-append}
 use Rattle.hex.specs.Hex.{hexOf}
 use Rattle.hex.proofs.Fields.{hex-length}
-use Rattle.job.specs.Event.{attach, request, lineOf}
-use Rattle.job.proofs.SpellSize.{line-length-of}
+use Rattle.text.specs.Event.{attach, request, lineOf}
+use Rattle.text.proofs.Spelling.{spelled-size}
+
+-- a line's length, from the packed bytes of its event
+pub line-length-of : (q : List ℕ) → 8 ≤ length q → length (lineOf (request q)) ≡ 20 + (length q - 8) * 2
+unfolding lineOf
+line-length-of q h =
+    let l : length (take 8 q) ≡ 8 = length-take-le 8 q h in
+    let d : length (drop 8 q) ≡ length q - 8 = length-drop 8 q in
+    let a : length (hexOf (take 8 q)) ≡ length (take 8 q) * 2 = hex-length (take 8 q) in
+    let b : length (hexOf (drop 8 q)) ≡ length (drop 8 q) * 2 = hex-length (drop 8 q) in
+    spelled-size (hexOf (take 8 q)) (hexOf (drop 8 q)) [] (omega arith) ∙ (let e : 20 + length (hexOf (drop 8 q)) + 0 ≡ 20 + (length q - 8) * 2 = omega arith in e)
 
 -- the room that a request's line takes
 pub request-room : (q : List ℕ) (at n : ℕ) → 8 ≤ length q → at + length (lineOf (request q)) ≤ n → at + 20 + (length q - 8) * 2 ≤ n

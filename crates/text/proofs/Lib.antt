@@ -1,0 +1,10 @@
+pub mod Fields
+pub mod Spelling
+pub mod FirstLine
+pub mod Formed
+pub mod LineLength
+pub mod Walking
+pub mod Known
+pub mod EventText
+pub mod WalkEvents
+pub mod SpellLine

@@ -1,0 +1,4 @@
+pub mod Event
+pub mod Text
+pub mod Walk
+pub mod Ways
