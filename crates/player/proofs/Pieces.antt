@@ -1,23 +1,33 @@
--- Laws of a packed event: what its kind and its request come to. Assumes nothing.
-use mathlib.Core.Path.{_≡_, refl}
+-- Laws of a packed event: what its kind, its request and its data come to. Assumes nothing.
+use mathlib.Core.Path.{_≡_, refl, _∙_, sym}
 use mathlib.Core.Bool.{cond}
-use mathlib.Core.List.{List, [], _∷_}
-use Prim.Native.Nat.{ℕ, _-_, _≤_}
+use mathlib.Core.List.{List, []}
+use Prim.Native.Nat.{ℕ, _-_, _≤_, _<_}
 use native.Mathlib.Omega.{arith}
+use native.Mathlib.Nat.{le-refl}
 use lib.Dec.{eqb}
-use lib.ListN.{length, take, drop, getD}
+use lib.ListN.{length, take, drop, getD, drop-of-length-le}
+use lib.Seq.{drop-length}
 use Rattle.laws.proofs.Bytes.{rest-is}
 use Rattle.laws.proofs.Split.{by-bool}
 use Rattle.refusal.specs.declared.Admission.{Admission}
 use Rattle.refusal.specs.declared.Admission.the-variants.{Admitted, Refused}
 use Rattle.board.specs.Layout.{loggerPages}
+use Rattle.request.specs.declared.Setup.{Setup}
+use Rattle.request.specs.Setup.{setupOf}
 use Rattle.device.specs.declared.Device.{Device}
+use Rattle.device.specs.declared.Pending.{Pending}
+use Rattle.device.specs.State.{started}
+use Rattle.decision.specs.declared.Command.{Command}
+use Rattle.decision.specs.declared.Decision.{Decision}
+use Rattle.decision.specs.Decide.{commandOf, decideOf}
 use Rattle.loader.specs.declared.Event.{Event}
 use Rattle.loader.specs.declared.Event.the-variants.{Attach, Request}
 use Rattle.loader.specs.Step.{stepOf, steps, admittedOf, sizesOf}
 use Rattle.job.specs.Packed.{eventIn}
 use Rattle.verdict.specs.World.{steppedOf}
 use Rattle.player.specs.Played.{playedOf}
+use Rattle.player.specs.Asked.{asked, waitsOf, askedOf}
 
 -- an Attach does not look at the request
 steps-alone : (a : Admission) (n : ℕ) (d : Device) (q m b y : List ℕ) → steps a Attach n d q m b y ≡ steps a Attach n d [] m b y
@@ -36,6 +46,14 @@ played-by d e from piece m b y k r =
     (λ t. rw (k, t) (attach-alone loggerPages d (take (length piece - from) (drop from piece)) m b y))
     (λ f. rw (k, rest-is from piece, r, f) refl)
 
-pub nothing-behind : (piece : List ℕ) → length piece ≡ 0 → (drop 0 piece ≡ drop 1 piece) × (0 ≤ length piece)
-nothing-behind [] h = (refl, omega arith)
-nothing-behind (x ∷ piece) h = absurd (omega arith)
+-- past the end of a piece nothing is left
+pub behind-end : (piece : List ℕ) (count : ℕ) → length piece < count → (drop (length piece) piece ≡ drop count piece) × (length piece ≤ length piece)
+behind-end piece count h =
+    let k : length piece ≤ count = omega arith in
+    (drop-length piece ∙ sym (drop-of-length-le piece k), le-refl _)
+
+-- what is asked for, found from parts of the piece
+pub asked-by : (e : Event) (s : Setup) (w : Pending) (k : Command) (x : Decision) (from stage : ℕ) (piece : List ℕ) → e ≡ cond (eqb (getD piece 0 0) 0) Attach Request → drop from piece ≡ drop 1 piece → drop stage piece ≡ drop 9 piece → s ≡ setupOf (take (length piece - from) (drop from piece)) → k ≡ commandOf (take (length piece - stage) (drop stage piece)) → x ≡ decideOf started s k → w ≡ waitsOf x → asked e s w ≡ askedOf piece
+unfolding askedOf
+asked-by e s w k x from stage piece he hf hg hs hk hx hw =
+    rw (hw, hx, hs, hk, he, rest-is from piece, rest-is stage piece, hf, hg) refl

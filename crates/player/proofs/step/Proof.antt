@@ -8,8 +8,8 @@ use Rattle.player.proofs.step.Tie as tie
 kind-requires : tie.Need-kind-requires
 kind-requires c κs = search needs
 
-request-from-requires : tie.Need-request-from-requires
-request-from-requires c κs = search needs
+behind-requires : tie.Need-behind-requires
+behind-requires c κs = search needs
 
 sub-step : tie.Need-sub-step
 sub-step c = search needs
@@ -36,14 +36,14 @@ returns : tie.Need-returns
 returns c =
     let s = c .before .before .before .before .before .before in
     let r = s .before .before .before .before .before in
-    s .step .ensures ∙ played-by _ _ (r .request-from .result) (r .before .before .before .before .before .before .args .piece .now) _ _ _ (r .before .kind .ensures) (r .request-from .ensures .0)
+    s .step .ensures ∙ played-by _ _ (r .behind .result) (r .before .before .before .before .before .before .args .piece .now) _ _ _ (r .before .kind .ensures) (r .behind .ensures .0)
 
 pub step-spec : {M : Type 1} → statement M
 step-spec =
     tie.close
     (tie.spec
     kind-requires
-    request-from-requires
+    behind-requires
     sub-step
     part-step-start
     part-step-end
