@@ -1,5 +1,5 @@
 -- `area::begin` meets its contract. Assumes nothing.
-use Rattle.area.proofs.Loops.{begun-is}
+use Rattle.area.proofs.Answers.{begun-is}
 use borrow.Author.Needs.{needs}
 use Rattle.area.proofs.begin.Statement.{statement}
 use Rattle.area.proofs.begin.Tie as tie

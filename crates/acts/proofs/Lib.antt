@@ -1,0 +1,3 @@
+pub mod Learning
+pub mod Loops
+pub mod Opened
