@@ -8,7 +8,7 @@ use Rattle.board.specs.declared.Place.{Place}
 use Rattle.board.specs.declared.Place.the-variants.{Flash, Ram, Options, Outside}
 use Rattle.board.specs.Layout.{optionsFrom, optionBytes}
 use Rattle.board.specs.Span.{placeOf}
-use Rattle.device.specs.declared.Mode.the-variants.{Error}
+use Rattle.mode.specs.declared.Mode.the-variants.{Error}
 use Rattle.device.specs.WellFormed.{statusFits}
 use Rattle.action.specs.declared.Access.{Access}
 use Rattle.action.specs.declared.Access.the-variants.{Denied, InFlash, InRam, InOptions}

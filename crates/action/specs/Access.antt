@@ -8,7 +8,7 @@ use Rattle.board.specs.Layout.{optionsFrom, optionBytes}
 use Rattle.board.specs.Span.{placeOf}
 use Rattle.action.specs.declared.Access.{Access}
 use Rattle.action.specs.declared.Access.the-variants.{Denied, InFlash, InRam, InOptions}
-use Rattle.device.specs.Wire.{errTARGET, errVENDOR}
+use Rattle.mode.specs.Wire.{errTARGET, errVENDOR}
 
 -- "(wValue - 2) x wLength of this request + pointer"; reads and writes share it
 unfoldable pub blockAddress : ℕ → ℕ → ℕ → ℕ

@@ -13,7 +13,7 @@ use Rattle.action.specs.declared.Access.the-variants.{Denied, InFlash, I
 use Rattle.action.specs.declared.Action.{Action}
 use Rattle.action.specs.declared.Action.the-variants.{Rest, Fail, Point, Erase, EraseAll, Unprotect, ClearRam, StoreFlash, StoreRam, StoreOptions}
 use Rattle.device.specs.declared.Ran.{Ran}
-use Rattle.device.specs.Wire.{errTARGET, errVENDOR}
+use Rattle.mode.specs.Wire.{errTARGET, errVENDOR}
 use Rattle.device.specs.WellFormed.{inRegion}
 use Rattle.action.specs.Access.{blockAccess}
 

@@ -2,7 +2,7 @@
 ghost use mathlib.Core.Path.{_≡_};
 ghost use mathlib.Core.Bool.{cond};
 ghost use lib.Dec.{ltb};
-ghost use Rattle.device.specs.Wire.{errTARGET, errVENDOR};
+ghost use Rattle.mode.specs.Wire.{errTARGET, errVENDOR};
 ghost use Rattle.action.specs.Access.{blockAddress, optionsAt, accessOf, blockAccess};
 ghost use Rattle.action.specs.Action.{actionOf, pointOf, eraseAt, eraseOf, storeAt, movedOf, rebootsOf, ranOf};
 use board::Board;

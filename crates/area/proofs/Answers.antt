@@ -12,7 +12,7 @@ use Rattle.board.specs.Protection.{readProtected}
 use Rattle.request.specs.declared.Setup.{Setup}
 use Rattle.device.specs.declared.Device.{Device}
 use Rattle.device.specs.declared.Ran.{Ran}
-use Rattle.device.specs.Wire.{wireOf}
+use Rattle.mode.specs.Wire.{wireOf}
 use Rattle.device.specs.State.{nothingRan}
 use Rattle.action.specs.declared.Access.{Access}
 use Rattle.action.specs.declared.Action.{Action}

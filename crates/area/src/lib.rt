@@ -17,8 +17,8 @@ use board::Board;
 use decision::Command;
 use decision::Decision;
 use device::Device;
-use device::Mode;
 use device::Ran;
+use mode::Mode;
 use request::Setup;
 
 // What an event comes to: it falls, that is, fails on some board; or all boards go on alike, with this device. A struct, since the compiler

@@ -8,8 +8,8 @@ use Rattle.board.specs.Span.{spans, placeOf}
 use Rattle.board.specs.Protection.{lockedFrom, wordFrom, readProtected, wordOf, writeProtected}
 use Rattle.request.specs.Request.{transferBytes, outwardOf, inwardOf, requestOf}
 use Rattle.request.specs.Setup.{setupOf, dataLength, fitsOf}
-use Rattle.device.specs.declared.Mode.{Mode}
-use Rattle.device.specs.Table.{allowedOf}
+use Rattle.mode.specs.declared.Mode.{Mode}
+use Rattle.mode.specs.Table.{allowedOf}
 use Rattle.device.specs.State.{started, afterStatus, reportOf}
 use Rattle.device.specs.WellFormed.{inRegion, wellFormed}
 use Rattle.decision.specs.Decide.{commandOf, commandedOf, downloadOf, decideOf}

@@ -5,8 +5,8 @@ use lib.ListN.{replicate}
 use Rattle.laws.specs.Bytes.{put, filled}
 use Rattle.board.specs.Layout.{defaults}
 use Rattle.request.specs.Spelled.{four, downloading, gettingStatus, clearingStatus}
-use Rattle.device.specs.declared.Mode.{Mode}
-use Rattle.device.specs.declared.Mode.the-variants.{Idle, DownloadSync, DownloadBusy, Error, Rebooting}
+use Rattle.mode.specs.declared.Mode.{Mode}
+use Rattle.mode.specs.declared.Mode.the-variants.{Idle, DownloadSync, DownloadBusy, Error, Rebooting}
 use Rattle.verdict.specs.declared.Verdict.the-variants.{End}
 use Rattle.bench.specs.Case.{Finding, locate, ask, check, address, state, judgement, Case, _⇒_}
 

@@ -19,10 +19,10 @@ use Rattle.request.specs.Request.{transferBytes, requestOf, isGetStatus}
 use Rattle.request.specs.Setup.{setupOf, dataLength, fitsOf}
 use Rattle.request.proofs.Known.{download-brings}
 use Rattle.request.proofs.Lengths.{fits-data}
-use Rattle.device.specs.declared.Mode.the-variants.{Idle, ManifestSync, UploadIdle}
+use Rattle.mode.specs.declared.Mode.the-variants.{Idle, ManifestSync, UploadIdle}
 use Rattle.device.specs.declared.Pending.the-variants.{Nothing, SetPointer, ErasePage, MassErase, ReadUnprotect, Write}
 use Rattle.device.specs.declared.Device.{Device}
-use Rattle.device.specs.Wire.{wireOf}
+use Rattle.mode.specs.Wire.{wireOf}
 use Rattle.device.specs.State.{started, idled, entered, reportOf}
 use Rattle.device.specs.WellFormed.{wellFormed}
 use Rattle.device.proofs.Form.{Form, well-formed, after-status-none}

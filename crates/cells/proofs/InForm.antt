@@ -9,10 +9,10 @@ use Rattle.laws.proofs.Split.{by-bool}
 use Rattle.board.specs.Protection.{readProtected, wordOf}
 use Rattle.request.specs.declared.Setup.{Setup}
 use Rattle.request.specs.Setup.{setupOf}
-use Rattle.device.specs.declared.Mode.the-variants.{UploadIdle}
+use Rattle.mode.specs.declared.Mode.the-variants.{UploadIdle}
 use Rattle.device.specs.declared.Device.{Device}
 use Rattle.device.specs.declared.Ran.{Ran}
-use Rattle.device.specs.Wire.{isMode}
+use Rattle.mode.specs.Wire.{isMode}
 use Rattle.device.specs.State.{reportOf, nothingRan}
 use Rattle.device.specs.WellFormed.{inRegion}
 use Rattle.device.proofs.Form.{Form, Sane, Calm, entered-form, after-status-form}

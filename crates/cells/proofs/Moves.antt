@@ -17,7 +17,7 @@ use Rattle.device.specs.declared.Pending.{Pending}
 use Rattle.device.specs.declared.Pending.the-variants.{Nothing, SetPointer, ErasePage, MassErase, ReadUnprotect, Write}
 use Rattle.device.specs.declared.Device.{Device}
 use Rattle.device.specs.declared.Ran.{Ran}
-use Rattle.device.specs.Wire.{isMode}
+use Rattle.mode.specs.Wire.{isMode}
 use Rattle.device.specs.State.{afterStatus, reportOf, nothingRan}
 use Rattle.device.specs.WellFormed.{inRegion}
 use Rattle.device.proofs.Form.{Form, well-formed}

@@ -11,10 +11,10 @@ use Rattle.board.specs.Layout.{pageBytes, flashBytes, ramFrom, ramBytes, option
 use Rattle.board.specs.Protection.{readProtected, wordOf, writeProtected}
 use Rattle.request.specs.declared.Setup.{Setup}
 use Rattle.request.specs.Setup.{setupOf}
-use Rattle.device.specs.declared.Mode.the-variants.{UploadIdle}
+use Rattle.mode.specs.declared.Mode.the-variants.{UploadIdle}
 use Rattle.device.specs.declared.Device.{Device}
 use Rattle.device.specs.declared.Ran.{Ran}
-use Rattle.device.specs.Wire.{errWRITE, isMode}
+use Rattle.mode.specs.Wire.{errWRITE, isMode}
 use Rattle.device.specs.State.{started, entered, afterStatus, reportOf, nothingRan}
 use Rattle.decision.specs.declared.Decision.{Decision}
 use Rattle.decision.specs.declared.Decision.the-variants as decided

@@ -4,7 +4,7 @@ use crate::say;
 use crate::trace;
 use crate::trial;
 use crate::trial::Scene;
-use device::Mode;
+use mode::Mode;
 
 // What is due before the job can end.
 fn due(mode: Mode) {

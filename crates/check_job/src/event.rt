@@ -10,8 +10,8 @@ use board::Board;
 use board::Place;
 use decision::Command;
 use device::Device;
-use device::Mode;
 use device::Pending;
+use mode::Mode;
 use request::Request;
 use request::Setup;
 
@@ -192,7 +192,7 @@ fn reason(device: Device, leave: usize, setup: Setup, memory: &[u8]) {
         return;
     }
     let request = setup.request();
-    if device::allowed(request, mode) {
+    if mode::allowed(request, mode) {
         served(device, setup, memory);
         return;
     }

@@ -1,6 +1,6 @@
 // Words for people, on standard error.
-use device::Mode;
 use libc::STDERR_FILENO;
+use mode::Mode;
 use request::Request;
 
 // Room for the longest name or number.

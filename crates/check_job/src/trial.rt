@@ -4,8 +4,8 @@
 // does: this is the board by which the checker's proof shows that a rejected job is rightly rejected.
 use board::Board;
 use device::Device;
-use device::Mode;
 use loader::Event;
+use mode::Mode;
 use request::Setup;
 
 pub const FLASH: usize = Board::LOGGER.pages as usize * Board::PAGE;

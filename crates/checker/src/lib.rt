@@ -18,7 +18,7 @@ ghost use Rattle.verdict.specs.Checked.{workBytes, checkable, Checked};
 ghost use Rattle.cells.specs.Cells.{overOf, suspect, lowestFrom, endNumber, endVerdict, verdictOf};
 use board::Board;
 use device::Device;
-use device::Mode;
+use mode::Mode;
 use refusal::Admission;
 use refusal::Done;
 use refusal::Refusal;

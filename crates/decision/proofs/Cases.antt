@@ -12,11 +12,11 @@ use Rattle.request.specs.declared.Request.{Request}
 use Rattle.request.specs.declared.Request.the-variants.{Download, Upload, GetStatus, ClearStatus, GetState, Abort, Unknown}
 use Rattle.request.specs.Request.{transferBytes, requestOf}
 use Rattle.request.proofs.Known.{known-short}
-use Rattle.device.specs.declared.Mode.the-variants.{Idle, ManifestSync}
+use Rattle.mode.specs.declared.Mode.the-variants.{Idle, ManifestSync}
 use Rattle.device.specs.declared.Pending.{Pending}
 use Rattle.device.specs.declared.Pending.the-variants.{SetPointer, ErasePage, MassErase, ReadUnprotect, Write}
 use Rattle.device.specs.declared.Device.{Device}
-use Rattle.device.specs.Table.{allowedOf}
+use Rattle.mode.specs.Table.{allowedOf}
 use Rattle.device.specs.State.{idled, entered}
 use Rattle.device.specs.WellFormed.{writeFits}
 use Rattle.decision.specs.declared.Command.{Command}

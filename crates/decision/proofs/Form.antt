@@ -4,10 +4,10 @@ use mathlib.Core.Bool.{true}
 use Prim.Native.Nat.{ℕ}
 use lib.Dec.{T}
 use Rattle.request.specs.declared.Setup.{Setup}
-use Rattle.device.specs.declared.Mode.the-variants.{Idle, ManifestSync}
+use Rattle.mode.specs.declared.Mode.the-variants.{Idle, ManifestSync}
 use Rattle.device.specs.declared.Pending.the-variants.{SetPointer, ErasePage, MassErase, ReadUnprotect, Write}
 use Rattle.device.specs.declared.Device.{Device}
-use Rattle.device.specs.Wire.{errSTALLEDPKT}
+use Rattle.mode.specs.Wire.{errSTALLEDPKT}
 use Rattle.device.proofs.Form.{Form, Calm, idled-form, stalled-form, entered-form, waiting-form, download-calm, upload-calm}
 use Rattle.decision.specs.declared.Command.{Command}
 use Rattle.decision.specs.declared.Decision.{Decision}

@@ -8,16 +8,16 @@ use Rattle.request.specs.declared.Setup.{Setup}
 use Rattle.request.specs.declared.Request.{Request}
 use Rattle.request.specs.declared.Request.the-variants.{Download, Upload, GetStatus, ClearStatus, GetState, Abort, Unknown}
 use Rattle.request.specs.Request.{requestOf}
-use Rattle.device.specs.declared.Mode.{Mode}
-use Rattle.device.specs.declared.Mode.the-variants.{Idle, DownloadSync, ManifestSync}
+use Rattle.mode.specs.declared.Mode.{Mode}
+use Rattle.mode.specs.declared.Mode.the-variants.{Idle, DownloadSync, ManifestSync}
 use Rattle.device.specs.declared.Pending.{Pending}
 use Rattle.device.specs.declared.Pending.the-variants.{SetPointer, ErasePage, MassErase, ReadUnprotect, Write}
 use Rattle.device.specs.declared.Device.{Device}
 use Rattle.decision.specs.declared.Command.{Command}
 use Rattle.decision.specs.declared.Decision.{Decision}
 use Rattle.decision.specs.declared.Decision.the-variants.{Silent, Stall, Accept, Take, Commands, Read, State, Status}
-use Rattle.device.specs.Wire.{isMode, errSTALLEDPKT}
-use Rattle.device.specs.Table.{allowedOf}
+use Rattle.mode.specs.Wire.{isMode, errSTALLEDPKT}
+use Rattle.mode.specs.Table.{allowedOf}
 use Rattle.device.specs.State.{idled, entered, stalled}
 
 -- "DNLOAD": the command byte, and "four address bytes, low first"; 0 where the data stage q has none

@@ -2,8 +2,8 @@
 ghost use mathlib.Core.Path.{_≡_};
 ghost use Rattle.decision.specs.Decide.{commandOf, decideOf, isStatus, servedOf, downloadOf, commandedOf, erasingOf, uploadOf, listedCount, waiting, waitingIf, refusedOf};
 use device::Device;
-use device::Mode;
 use device::Pending;
+use mode::Mode;
 use request::Request;
 use request::Setup;
 
@@ -53,7 +53,7 @@ pub fn asks_status(device: Device, setup: Setup) -> bool
     let mode = device.mode;
     let request = setup.request();
     match request {
-        Request::GetStatus => device::allowed(request, mode),
+        Request::GetStatus => mode::allowed(request, mode),
         Request::Download => false,
         Request::Upload => false,
         Request::ClearStatus => false,
@@ -72,7 +72,7 @@ pub fn decide(device: Device, setup: Setup, command: Command) -> Decision
         return Decision::Silent;
     }
     let request = setup.request();
-    if !device::allowed(request, mode) {
+    if !mode::allowed(request, mode) {
         return refused(device);
     }
     serve(request, device, setup, command)

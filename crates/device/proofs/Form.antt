@@ -6,14 +6,14 @@ use lib.Dec.{eqb}
 use borrow.Author.Tests.{eqb-true}
 use Rattle.laws.proofs.Split.{by-bool, and-true}
 use Rattle.request.specs.declared.Request.the-variants.{Download, Upload}
-use Rattle.device.specs.declared.Mode.{Mode}
-use Rattle.device.specs.declared.Mode.the-variants.{Idle, DownloadSync, DownloadBusy, DownloadIdle, ManifestSync, UploadIdle, Error, Left, Rebooting}
+use Rattle.mode.specs.declared.Mode.{Mode}
+use Rattle.mode.specs.declared.Mode.the-variants.{Idle, DownloadSync, DownloadBusy, DownloadIdle, ManifestSync, UploadIdle, Error, Left, Rebooting}
 use Rattle.device.specs.declared.Pending.{Pending}
 use Rattle.device.specs.declared.Pending.the-variants.{Nothing, SetPointer, ErasePage, MassErase, ReadUnprotect, Write}
 use Rattle.device.specs.declared.Device.{Device}
 use Rattle.device.specs.declared.Ran.{Ran}
-use Rattle.device.specs.Wire.{wireOf, isMode}
-use Rattle.device.specs.Table.{allowedOf}
+use Rattle.mode.specs.Wire.{wireOf, isMode}
+use Rattle.mode.specs.Table.{allowedOf}
 use Rattle.device.specs.State.{idled, failed, stalled, entered, finished, afterStatus}
 use Rattle.device.specs.WellFormed.{inRegion, writeFits, pendingFits, statusFits, wellFormed}
 

@@ -3,13 +3,13 @@ use mathlib.Core.Bool.{cond, false}
 use Prim.Native.Nat.{ℕ}
 use lib.Dec.{eqb}
 use Rattle.board.specs.Layout.{flashFirst}
-use Rattle.device.specs.declared.Mode.{Mode}
-use Rattle.device.specs.declared.Mode.the-variants.{Idle, DownloadBusy, DownloadIdle, Error, Left, Rebooting}
+use Rattle.mode.specs.declared.Mode.{Mode}
+use Rattle.mode.specs.declared.Mode.the-variants.{Idle, DownloadBusy, DownloadIdle, Error, Left, Rebooting}
 use Rattle.device.specs.declared.Pending.the-variants.{Nothing}
 use Rattle.device.specs.declared.Device.{Device}
 use Rattle.device.specs.declared.Ran.{Ran}
 use Rattle.device.specs.declared.Report.{Report}
-use Rattle.device.specs.Wire.{wireOf, isMode, manifestWire}
+use Rattle.mode.specs.Wire.{wireOf, isMode, manifestWire}
 
 -- "Attach, in any mode, gives mode 2, status 0, pointer 0x08000000, nothing pending"
 abbrev pub started : Device

@@ -6,11 +6,11 @@ use Rattle.board.specs.declared.Place.{Place}
 use Rattle.board.specs.declared.Place.the-variants.{Flash, Ram, Options, Outside}
 use Rattle.board.specs.Span.{placeOf}
 use Rattle.request.specs.Request.{transferBytes}
-use Rattle.device.specs.declared.Mode.{Mode}
+use Rattle.mode.specs.declared.Mode.{Mode}
 use Rattle.device.specs.declared.Pending.{Pending}
 use Rattle.device.specs.declared.Pending.the-variants.{Nothing, SetPointer, ErasePage, MassErase, ReadUnprotect, Write}
 use Rattle.device.specs.declared.Device.{Device}
-use Rattle.device.specs.Wire.{isMode, errTARGET, errWRITE, errVENDOR, errSTALLEDPKT}
+use Rattle.mode.specs.Wire.{isMode, errTARGET, errWRITE, errVENDOR, errSTALLEDPKT}
 
 -- a place in one of the regions
 abbrev pub isPlace : Place → Bool

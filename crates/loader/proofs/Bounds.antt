@@ -15,11 +15,11 @@ use Rattle.board.specs.Layout.{memoryBytes}
 use Rattle.board.specs.Span.{placeOf}
 use Rattle.board.proofs.Span.{Lies, place-lies}
 use Rattle.request.specs.Request.{transferBytes}
-use Rattle.device.specs.declared.Mode.{Mode}
+use Rattle.mode.specs.declared.Mode.{Mode}
 use Rattle.device.specs.declared.Pending.{Pending}
 use Rattle.device.specs.declared.Pending.the-variants.{Nothing, SetPointer, ErasePage, MassErase, ReadUnprotect, Write}
 use Rattle.device.specs.declared.Device.{Device}
-use Rattle.device.specs.Wire.{isMode}
+use Rattle.mode.specs.Wire.{isMode}
 use Rattle.device.specs.WellFormed.{inRegion, writeFits, pendingFits, statusFits, wellFormed}
 use Rattle.action.specs.declared.Access.{Access}
 use Rattle.action.specs.declared.Access.the-variants.{Denied, InFlash, InRam, InOptions}

@@ -14,11 +14,11 @@ use Rattle.board.specs.Layout.{flashBytes}
 use Rattle.board.specs.Protection.{readProtected, wordOf}
 use Rattle.board.specs.Span.{spans, placeOf}
 use Rattle.request.specs.Setup.{setupOf}
-use Rattle.device.specs.declared.Mode.the-variants.{UploadIdle, Error}
+use Rattle.mode.specs.declared.Mode.the-variants.{UploadIdle, Error}
 use Rattle.device.specs.declared.Pending.{Pending}
 use Rattle.device.specs.declared.Pending.the-variants.{Nothing, SetPointer, ErasePage, MassErase, ReadUnprotect, Write}
 use Rattle.device.specs.declared.Device.{Device}
-use Rattle.device.specs.Wire.{isMode}
+use Rattle.mode.specs.Wire.{isMode}
 use Rattle.device.specs.State.{started}
 use Rattle.device.specs.WellFormed.{inRegion, statusFits}
 use Rattle.device.proofs.Form.{Form, Sane, Calm, stalled-form, entered-form, after-status-form}

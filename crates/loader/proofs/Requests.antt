@@ -15,7 +15,7 @@ use Rattle.request.proofs.Lengths.{fits-data, data-at-most}
 use Rattle.device.specs.declared.Device.{Device}
 use Rattle.device.specs.declared.Ran.{Ran}
 use Rattle.device.specs.declared.Report.{Report}
-use Rattle.device.specs.Wire.{isMode}
+use Rattle.mode.specs.Wire.{isMode}
 use Rattle.device.specs.State.{afterStatus, reportOf, nothingRan}
 use Rattle.decision.specs.declared.Command.{Command}
 use Rattle.decision.specs.declared.Decision.{Decision}

@@ -5,7 +5,7 @@ use Prim.Native.Nat.{ℕ}
 use lib.ListN.{length, take}
 use Rattle.laws.specs.Bytes.{put}
 use Rattle.board.specs.Protection.{wordOf}
-use Rattle.device.specs.Wire.{errWRITE}
+use Rattle.mode.specs.Wire.{errWRITE}
 use Rattle.action.specs.declared.Action.{Action}
 use Rattle.action.specs.declared.Action.the-variants.{Rest, Fail, Point, Erase, EraseAll, Unprotect, ClearRam, StoreFlash, StoreRam, StoreOptions}
 use Rattle.memory.specs.Flash.{blank, stored, erased, erasedAll}

@@ -9,10 +9,10 @@ use Rattle.board.specs.Protection.{readProtected}
 use Rattle.request.specs.declared.Setup.{Setup}
 use Rattle.request.specs.Setup.{setupOf}
 use Rattle.device.specs.declared.Device.{Device}
-use Rattle.device.specs.declared.Mode.the-variants.{UploadIdle}
+use Rattle.mode.specs.declared.Mode.the-variants.{UploadIdle}
 use Rattle.device.specs.declared.Ran.{Ran}
 use Rattle.device.specs.declared.Report.{Report}
-use Rattle.device.specs.Wire.{wireOf, isMode}
+use Rattle.mode.specs.Wire.{wireOf, isMode}
 use Rattle.device.specs.State.{entered, stalled, afterStatus, reportOf, nothingRan}
 use Rattle.decision.specs.declared.Decision.{Decision}
 use Rattle.decision.specs.declared.Decision.the-variants as decided

@@ -14,10 +14,10 @@ use Rattle.board.specs.Layout.{pageBytes, flashBytes, optionsFrom, optionBytes,
 use Rattle.board.specs.Protection.{readProtected, wordOf, lockedFrom, wordFrom, writeProtected}
 use Rattle.request.specs.Request.{transferBytes}
 use Rattle.request.specs.declared.Request.the-variants.{Download}
-use Rattle.device.specs.declared.Mode.{Mode}
-use Rattle.device.specs.declared.Mode.the-variants.{DownloadIdle}
-use Rattle.device.specs.Wire.{isMode}
-use Rattle.device.specs.Table.{allowedOf}
+use Rattle.mode.specs.declared.Mode.{Mode}
+use Rattle.mode.specs.declared.Mode.the-variants.{DownloadIdle}
+use Rattle.mode.specs.Wire.{isMode}
+use Rattle.mode.specs.Table.{allowedOf}
 use Rattle.laws.specs.Lists.{allBytes}
 use Rattle.memory.specs.Flash.{kept, stored}
 use Rattle.text.specs.Event.{Event}

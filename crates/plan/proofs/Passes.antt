@@ -12,10 +12,10 @@ use Rattle.board.specs.Layout.{pageBytes, flashFirst, flashBytes, optionsFrom, 
 use Rattle.board.specs.Protection.{lockedFrom, wordFrom, anyProtected}
 use Rattle.board.proofs.Protection.{none-parts}
 use Rattle.request.specs.declared.Request.the-variants.{Download}
-use Rattle.device.specs.declared.Mode.{Mode}
-use Rattle.device.specs.declared.Mode.the-variants.{Idle, DownloadIdle, ManifestSync, Left}
-use Rattle.device.specs.Wire.{isMode}
-use Rattle.device.specs.Table.{allowedOf}
+use Rattle.mode.specs.declared.Mode.{Mode}
+use Rattle.mode.specs.declared.Mode.the-variants.{Idle, DownloadIdle, ManifestSync, Left}
+use Rattle.mode.specs.Wire.{isMode}
+use Rattle.mode.specs.Table.{allowedOf}
 use Rattle.laws.specs.Lists.{allBytes}
 use Rattle.laws.proofs.Lists.{same-refl}
 use Rattle.verdict.specs.declared.Verdict.the-variants as verdict

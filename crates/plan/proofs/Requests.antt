@@ -16,13 +16,13 @@ use Rattle.request.specs.declared.Setup.{Setup}
 use Rattle.request.specs.declared.Request.the-variants.{Download}
 use Rattle.request.specs.Setup.{setupOf}
 use Rattle.request.specs.Request.{transferBytes, requestOf, outwardOf, inwardOf}
-use Rattle.device.specs.declared.Mode.{Mode}
-use Rattle.device.specs.declared.Mode.the-variants.{Idle, DownloadSync, DownloadBusy, DownloadIdle, ManifestSync, Left}
+use Rattle.mode.specs.declared.Mode.{Mode}
+use Rattle.mode.specs.declared.Mode.the-variants.{Idle, DownloadSync, DownloadBusy, DownloadIdle, ManifestSync, Left}
 use Rattle.device.specs.declared.Pending.{Pending}
 use Rattle.device.specs.declared.Pending.the-variants.{Nothing, SetPointer, ErasePage, Write}
 use Rattle.device.specs.declared.Device.{Device}
-use Rattle.device.specs.Wire.{isMode}
-use Rattle.device.specs.Table.{allowedOf}
+use Rattle.mode.specs.Wire.{isMode}
+use Rattle.mode.specs.Table.{allowedOf}
 use Rattle.device.specs.WellFormed.{inRegion}
 use Rattle.device.specs.State.{afterStatus, reportOf}
 use Rattle.decision.specs.Decide.{commandOf, commandedOf, downloadOf, decideOf}

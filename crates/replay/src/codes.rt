@@ -1,8 +1,8 @@
 // Modes and pending commands as the numbers that stand for them in records and lines.
 ghost use Prim.Native.Nat.{_<_};
 ghost use mathlib.Core.Path.{_≡_};
-use device::Mode;
 use device::Pending;
+use mode::Mode;
 
 // A mode is its number on the wire; two have none there.
 const LEFT: u8 = 0;

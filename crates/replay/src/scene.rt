@@ -6,10 +6,10 @@ use crate::record;
 use crate::record::Record;
 use crate::record::Request;
 use device::Device;
-use device::Mode;
 use device::Pending;
 use loader::Event;
 use loader::Stepped;
+use mode::Mode;
 
 pub const MEMORY: usize = 18448;
 

@@ -7,8 +7,8 @@ use lib.Dec.{eqb, ltb}
 use lib.ListN.{length, drop, getD}
 use Rattle.board.specs.Layout.{pageBytes, flashFirst, flashBytes, optionsFrom, pagesOf}
 use Rattle.device.specs.declared.Device.{Device}
-use Rattle.device.specs.declared.Mode.{Mode}
-use Rattle.device.specs.declared.Mode.the-variants.{Idle, DownloadSync, DownloadBusy, DownloadIdle, ManifestSync, UploadIdle, Error, Left, Rebooting}
+use Rattle.mode.specs.declared.Mode.{Mode}
+use Rattle.mode.specs.declared.Mode.the-variants.{Idle, DownloadSync, DownloadBusy, DownloadIdle, ManifestSync, UploadIdle, Error, Left, Rebooting}
 use Rattle.laws.specs.Lists.{same}
 use Rattle.text.specs.Event.{Event}
 use Rattle.verdict.specs.declared.Verdict.{Verdict}

@@ -3,8 +3,8 @@ use mathlib.Core.List.{List, [], _∷_, _++_}
 use Prim.Native.Nat.{ℕ, _-_}
 use lib.ListN.{take, drop}
 use Rattle.request.specs.declared.Request.the-variants as request
-use Rattle.device.specs.declared.Mode.the-variants as mode
-use Rattle.device.specs.Wire.{errTARGET, errWRITE, errVENDOR, errSTALLEDPKT}
+use Rattle.mode.specs.declared.Mode.the-variants as mode
+use Rattle.mode.specs.Wire.{errTARGET, errWRITE, errVENDOR, errSTALLEDPKT}
 use Rattle.words.specs.Words.{requestName, modeName, statusName}
 
 -- the names one behind the other, a bar behind each

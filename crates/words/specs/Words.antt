@@ -8,9 +8,9 @@ use Rattle.laws.specs.Ascii.{ascii}
 use Rattle.laws.specs.Bytes.{put}
 use Rattle.request.specs.declared.Request.{Request}
 use Rattle.request.specs.declared.Request.the-variants as request
-use Rattle.device.specs.declared.Mode.{Mode}
-use Rattle.device.specs.declared.Mode.the-variants as mode
-use Rattle.device.specs.Wire.{errTARGET, errWRITE, errVENDOR, errSTALLEDPKT}
+use Rattle.mode.specs.declared.Mode.{Mode}
+use Rattle.mode.specs.declared.Mode.the-variants as mode
+use Rattle.mode.specs.Wire.{errTARGET, errWRITE, errVENDOR, errSTALLEDPKT}
 use Rattle.hex.specs.Hex.{hexOf}
 use Rattle.decimal.specs.Decimal.{decimalOf}
 

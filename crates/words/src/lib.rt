@@ -10,7 +10,7 @@ ghost use Rattle.decimal.specs.Decimal.{decimalOf};
 ghost use Rattle.words.specs.Names.{namesLength, namesFrom};
 ghost use Rattle.words.specs.Words.{left, saidOf, requestName, modeName, statusName, highFirst, addressOf};
 use device::Device;
-use device::Mode;
+use mode::Mode;
 use request::Request;
 
 // The most digits that a number has, and a byte behind them.

@@ -1,7 +1,7 @@
 -- `decision::asks_status` meets its contract. Assumes nothing.
 use mathlib.Core.Path.{ap, sym, _∙_}
 use Rattle.request.specs.declared.Request.{Request}
-use Rattle.device.specs.Table.{allowedOf}
+use Rattle.mode.specs.Table.{allowedOf}
 use Rattle.request.specs.declared.Request.the-variants.{Download, Upload, GetStatus, ClearStatus, GetState, Abort, Unknown}
 use Rattle.decision.proofs.Asking.{status-decided}
 use borrow.Author.Needs.{needs}

@@ -5,8 +5,8 @@ use Prim.Native.Nat.{ℕ}
 use lib.Dec.{eqb}
 use Rattle.request.specs.declared.Request.{Request}
 use Rattle.request.specs.declared.Request.the-variants.{Download, Upload, GetStatus, ClearStatus, GetState, Abort, Unknown}
-use Rattle.device.specs.declared.Mode.{Mode}
-use Rattle.device.specs.Wire.{wireOf}
+use Rattle.mode.specs.declared.Mode.{Mode}
+use Rattle.mode.specs.Wire.{wireOf}
 
 -- column "Modes", by wire numbers; "All else .. stalls"
 abbrev pub modesOf : Request → List ℕ

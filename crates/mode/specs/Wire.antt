@@ -2,8 +2,8 @@
 use mathlib.Core.Bool.{Bool}
 use Prim.Native.Nat.{ℕ}
 use lib.Dec.{eqb}
-use Rattle.device.specs.declared.Mode.{Mode}
-use Rattle.device.specs.declared.Mode.the-variants.{Idle, DownloadSync, DownloadBusy, DownloadIdle, ManifestSync, UploadIdle, Error, Left, Rebooting}
+use Rattle.mode.specs.declared.Mode.{Mode}
+use Rattle.mode.specs.declared.Mode.the-variants.{Idle, DownloadSync, DownloadBusy, DownloadIdle, ManifestSync, UploadIdle, Error, Left, Rebooting}
 
 -- "Modes: 2 dfuIDLE, .."; Left and Rebooting have no wire number: they answer nothing, so that their 0 is never sent
 abbrev pub wireOf : Mode → ℕ

@@ -10,10 +10,10 @@ use Rattle.laws.specs.Table.{every, agree}
 use Rattle.laws.proofs.Table.{every-at, agree-eq, and-left, and-right}
 use Rattle.request.specs.declared.Request.{Request}
 use Rattle.request.specs.declared.Request.the-variants.{Download, Upload, GetStatus, ClearStatus, GetState, Abort, Unknown}
-use Rattle.device.specs.declared.Mode.{Mode}
-use Rattle.device.specs.declared.Mode.the-variants.{Idle, DownloadSync, DownloadBusy, DownloadIdle, ManifestSync, UploadIdle, Error, Left, Rebooting}
-use Rattle.device.specs.Columns.{rowOf, columnOf}
-use Rattle.device.specs.Table.{allowedOf}
+use Rattle.mode.specs.declared.Mode.{Mode}
+use Rattle.mode.specs.declared.Mode.the-variants.{Idle, DownloadSync, DownloadBusy, DownloadIdle, ManifestSync, UploadIdle, Error, Left, Rebooting}
+use Rattle.mode.specs.Columns.{rowOf, columnOf}
+use Rattle.mode.specs.Table.{allowedOf}
 
 -- the constant of src/
 abbrev pub table : List (List ℕ)

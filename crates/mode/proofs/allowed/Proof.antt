@@ -1,11 +1,11 @@
--- `device::allowed` meets its contract. Assumes nothing.
-use Rattle.device.proofs.Table.{row-is, no-row, column-below}
-use Rattle.device.specs.Columns.{rowOf}
+-- `mode::allowed` meets its contract. Assumes nothing.
+use Rattle.mode.proofs.Table.{row-is, no-row, column-below}
+use Rattle.mode.specs.Columns.{rowOf}
 use native.Mathlib.Omega.{arith}
 use mathlib.Core.Path.{ap, sym, _∙_}
 use borrow.Author.Needs.{needs}
-use Rattle.device.proofs.allowed.Statement.{statement}
-use Rattle.device.proofs.allowed.Tie as tie
+use Rattle.mode.proofs.allowed.Statement.{statement}
+use Rattle.mode.proofs.allowed.Tie as tie
 
 column-requires : tie.Need-column-requires
 column-requires c κs = search needs
