@@ -1,7 +1,6 @@
 // Where two memories differ, in words.
 ghost use mathlib.Core.Path.{_≡_};
-ghost use Prim.Native.Nat.{_-_, _≤_};
-ghost use Rattle.play_job.specs.Change.{firstChange};
+ghost use Prim.Native.Nat.{_≤_};
 use board::Board;
 
 // The parts that are told apart: the pages, then RAM, then the options.
@@ -15,24 +14,17 @@ const OPTIONS_FROM: usize = RAM_FROM + Board::RAM_BYTES;
 
 pub const MEMORY: usize = OPTIONS_FROM + Board::OPTION_BYTES;
 
+// What stands before a part that differs, as the sentence counts it: in the line of an event, and on a line of its own.
+pub const INLINE: usize = 0;
+
+pub const ALONE: usize = 1;
+
+// A part by its places; `name` is how the sentence counts it.
 struct Part {
+    name: usize,
     from: usize,
     to: usize,
-    address: u32,
-}
-
-// The lowest place from `from` up to `to` where the two differ, or the first that is not below `to`.
-fn first(old: &[u8], new: &[u8], from: usize, to: usize) -> usize
-    ensures { λ r. ⌜ (r ≡ firstChange (now (old .entry)) (now (new .entry)) (to - from) from) × (from ≤ r) ⌝ }
-{
-    let mut i = from;
-    while i < to {
-        if buffer::byte_at(old, i) != buffer::byte_at(new, i) {
-            return i;
-        }
-        i += 1;
-    }
-    i
+    address: usize,
 }
 
 fn part_of(number: usize) -> Part
@@ -41,56 +33,52 @@ fn part_of(number: usize) -> Part
     if number < PAGES {
         let from = number * Board::PAGE;
         return Part {
+            name: 0,
             from,
             to: from + Board::PAGE,
-            address: Board::FLASH + from as u32,
+            address: Board::FLASH as usize + from,
         };
     }
     if number == PAGES {
         return Part {
+            name: 1,
             from: RAM_FROM,
             to: OPTIONS_FROM,
-            address: Board::RAM,
+            address: Board::RAM as usize,
         };
     }
     Part {
+        name: 2,
         from: OPTIONS_FROM,
         to: MEMORY,
-        address: Board::OPTIONS,
+        address: Board::OPTIONS as usize,
     }
 }
 
-fn name(number: usize, out: &mut [u8], at: usize) -> usize {
-    if number < PAGES {
-        let end = words::say(b"page ", out, at);
-        return words::decimal(number, out, end);
-    }
-    if number == PAGES {
-        return words::say(b"RAM", out, at);
-    }
-    words::say(b"the option block", out, at)
-}
-
-// That a part differs, behind `lead`; nothing where it does not.
-fn tell(old: &[u8], new: &[u8], number: usize, lead: &[u8], out: &mut [u8], at: usize) -> usize {
-    let part = part_of(number);
-    let place = first(old, new, part.from, part.to);
+// That a part differs from a place on; nothing where that is not in it.
+fn tell(part: Part, number: usize, place: usize, lead: usize, out: &mut [u8], at: usize) -> usize
+    requires { ⌜ (part .from ≤ place) × (part .to ≤ 18448) × (part .address ≤ 0x2000_0000) ⌝ }
+{
     if part.to <= place {
         return at;
     }
-    let end = words::say(lead, out, at);
-    let end = name(number, out, end);
-    let end = words::say(b" differs from ", out, end);
-    let end = words::address(part.address + (place - part.from) as u32, out, end);
-    words::say(b" on", out, end)
+    sentence::fill(
+        b"[; |\n][page #|RAM|the option block] differs from @ on",
+        &[lead, part.name, number, part.address + (place - part.from)],
+        b"",
+        out,
+        at,
+    )
 }
 
 // Every part that differs.
-pub(crate) fn list(old: &[u8], new: &[u8], lead: &[u8], out: &mut [u8], at: usize) -> usize {
+pub(crate) fn list(old: &[u8], new: &[u8], lead: usize, out: &mut [u8], at: usize) -> usize {
     let mut end = at;
     let mut number = 0;
     while number < PARTS {
-        end = tell(old, new, number, lead, out, end);
+        let part = part_of(number);
+        let place = player::first_change(old, new, part.from, part.to);
+        end = tell(part, number, place, lead, out, end);
         number += 1;
     }
     end

@@ -1,113 +1,150 @@
 // The words of an event: what is asked for, and what became of it.
-use decision::Command;
 use device::Device;
+use device::Pending;
 use loader::Answer;
-use loader::Stepped;
+use loader::Event;
+use player::Asked;
 use request::Request;
 use request::Setup;
 
-const SETUP_BYTES: usize = 8;
+// Room for the longest name of a request and a bar.
+const NAME_ROOM: usize = 64;
 
-// A word and an address behind it.
-fn pointed(lead: &[u8], address: u32, out: &mut [u8], at: usize) -> usize {
-    let end = words::say(lead, out, at);
-    words::address(address, out, end)
+// A part of a sentence as the sentence counts it, and the number in it.
+pub struct Part {
+    pub part: usize,
+    pub number: usize,
 }
 
-// A word and a number behind it.
-fn counted(lead: &[u8], number: usize, out: &mut [u8], at: usize) -> usize {
-    let end = words::say(lead, out, at);
-    words::decimal(number, out, end)
-}
-
-// The address of a request's block. The loader's pointer and lengths keep it far below 32 bits.
-fn target(pointer: u32, setup: Setup) -> u32 {
-    let address = action::block_address(setup.value, setup.length, pointer);
-    (address % 0x1_0000_0000) as u32
-}
-
-// A command of one byte, and one with an address.
-fn bare(code: u8, out: &mut [u8], at: usize) -> usize {
-    match code {
-        0x41 => words::say(b", mass erase", out, at),
-        0x92 => words::say(b", read unprotect", out, at),
-        _ => words::say(b", no command", out, at),
+// What a DNLOAD without a command is for: to leave, or nothing; block 1 has no words.
+fn idle(setup: Setup) -> usize {
+    if setup.length == 0 {
+        return 1;
     }
-}
-
-fn addressed(command: Command, out: &mut [u8], at: usize) -> usize {
-    let code = command.code;
-    match code {
-        0x21 => pointed(b", set pointer ", command.address, out, at),
-        0x41 => pointed(b", erase page of ", command.address, out, at),
-        _ => words::say(b", no command", out, at),
+    if setup.value == 0 {
+        return 2;
     }
+    0
 }
 
-fn command(command: Command, length: u16, out: &mut [u8], at: usize) -> usize {
-    match length {
-        1 => bare(command.code, out, at),
-        5 => addressed(command, out, at),
-        _ => words::say(b", no command", out, at),
+// The address of a request's block.
+fn target(part: usize, pointer: u32, setup: Setup) -> Part {
+    Part {
+        part,
+        number: action::block_address(setup.value, setup.length, pointer) as usize,
     }
 }
 
 // What a DNLOAD is for.
-fn download(device: Device, setup: Setup, stage: &[u8], out: &mut [u8], at: usize) -> usize {
-    if setup.length == 0 {
-        return words::say(b", leave", out, at);
-    }
-    let block = setup.value;
-    match block {
-        0 => command(Command::of(stage), setup.length, out, at),
-        1 => at,
-        _ => pointed(b", write to ", target(device.pointer, setup), out, at),
+fn download(pointer: u32, setup: Setup, pending: Pending) -> Part {
+    match pending {
+        Pending::Nothing => Part {
+            part: idle(setup),
+            number: 0,
+        },
+        Pending::MassErase => Part { part: 3, number: 0 },
+        Pending::ReadUnprotect => Part { part: 4, number: 0 },
+        Pending::SetPointer(address) => Part {
+            part: 6,
+            number: address as usize,
+        },
+        Pending::ErasePage(address) => Part {
+            part: 7,
+            number: address as usize,
+        },
+        Pending::Write { block: _, count: _ } => target(8, pointer, setup),
     }
 }
 
 // What an UPLOAD is for.
-fn upload(device: Device, setup: Setup, out: &mut [u8], at: usize) -> usize {
+fn upload(pointer: u32, setup: Setup) -> Part {
     let block = setup.value;
     match block {
-        0 => words::say(b", list commands", out, at),
-        1 => at,
-        _ => pointed(b", read from ", target(device.pointer, setup), out, at),
+        0 => Part { part: 5, number: 0 },
+        1 => Part { part: 0, number: 0 },
+        _ => target(9, pointer, setup),
     }
 }
 
-fn sized(setup: Setup, out: &mut [u8], at: usize) -> usize {
-    let end = counted(b", block ", setup.value as usize, out, at);
-    counted(b", length ", setup.length as usize, out, end)
-}
-
-pub(crate) fn request(device: Device, request: &[u8], out: &mut [u8], at: usize) -> usize {
-    let setup = Setup::of(request);
-    let asked = setup.request();
-    let end = words::request(asked, out, at);
-    match asked {
-        Request::Download => {
-            let end = sized(setup, out, end);
-            if request.len() < SETUP_BYTES {
-                return end;
-            }
-            download(device, setup, &request[SETUP_BYTES..], out, end)
-        }
-        Request::Upload => {
-            let end = sized(setup, out, end);
-            upload(device, setup, out, end)
-        }
-        _ => end,
+// What an event is for.
+fn purpose(pointer: u32, asked: Asked) -> Part {
+    let setup = asked.setup;
+    let pending = asked.pending;
+    let request = setup.request();
+    match request {
+        Request::Download => download(pointer, setup, pending),
+        Request::Upload => upload(pointer, setup),
+        _ => Part { part: 0, number: 0 },
     }
 }
 
-fn answer(answer: Answer, out: &mut [u8], at: usize) -> usize {
+// How much is said of it: that it is an Attach, the request's name, or that with block and length.
+fn extent(asked: Asked) -> usize {
+    let event = asked.event;
+    let setup = asked.setup;
+    let request = setup.request();
+    match event {
+        Event::Attach => 0,
+        Event::Request => match request {
+            Request::Download => 2,
+            Request::Upload => 2,
+            _ => 1,
+        },
+    }
+}
+
+fn answered(answer: Answer) -> Part {
     match answer {
-        Answer::Accepted => words::say(b": accepted", out, at),
-        Answer::Reply(count) => counted(b": reply of length ", count, out, at),
-        Answer::Stall => words::say(b": stall", out, at),
-        Answer::Silent => words::say(b": silent", out, at),
-        Answer::Refused(why) => counted(b": refused, ", why.number() as usize, out, at),
+        Answer::Accepted => Part { part: 0, number: 0 },
+        Answer::Reply(count) => Part {
+            part: 1,
+            number: count,
+        },
+        Answer::Stall => Part { part: 2, number: 0 },
+        Answer::Silent => Part { part: 3, number: 0 },
+        Answer::Refused(why) => Part {
+            part: 4,
+            number: why.number() as usize,
+        },
     }
+}
+
+// What the event asks of a device with this pointer, and the answer.
+pub(crate) fn tell(
+    number: usize,
+    pointer: u32,
+    asked: Asked,
+    answer: Answer,
+    out: &mut [u8],
+) -> usize {
+    let mut name = [0u8; NAME_ROOM];
+    let setup = asked.setup;
+    let extent = extent(asked);
+    let aim = purpose(pointer, asked);
+    let told = answered(answer);
+    let end = words::request(setup.request(), &mut name, 0);
+    words::say(b"|", &mut name, end);
+    sentence::fill(
+        b"#. [attach|$][||, block #, length #][|, leave|, no command|, mass erase|, read unprotect|, list commands|, set pointer @|, erase page of @|, write to @|, read from @]: [accepted|reply of length #|stall|silent|refused, #]",
+        &[
+            number,
+            extent,
+            extent,
+            setup.value as usize,
+            setup.length as usize,
+            aim.part,
+            aim.number,
+            aim.number,
+            aim.number,
+            aim.number,
+            told.part,
+            told.number,
+            told.number,
+        ],
+        &name,
+        out,
+        0,
+    )
 }
 
 // The device's mode and status.
@@ -117,12 +154,4 @@ pub(crate) fn state(device: Device, out: &mut [u8], at: usize) -> usize {
     let end = words::mode(mode, out, end);
     let end = words::say(b", ", out, end);
     words::status(device.status, out, end)
-}
-
-// What became of an event.
-pub(crate) fn outcome(stepped: Stepped, out: &mut [u8], at: usize) -> usize {
-    let told = stepped.answer;
-    let device = stepped.device;
-    let end = answer(told, out, at);
-    state(device, out, end)
 }

@@ -4,10 +4,12 @@
 // model/play_vectors.py makes the sample and the text that this program has to print for it.
 mod change;
 mod event;
-mod file;
 mod play;
 mod refuse;
 
+ghost use Prim.Native.Nat.{_≤_};
+ghost use lib.ListN.{length};
+use files::Got;
 use refusal::Done;
 use refusal::Refusal;
 
@@ -19,15 +21,8 @@ const BOARD_ROOM: usize = change::MEMORY + 1;
 // A packed event has at most half the bytes of its line.
 const PACKED_ROOM: usize = job::LIMIT / 2;
 
-// Plays the events of a text on a board.
-fn perform(text: &[u8], board: &[u8]) {
-    let mut packed = [0u8; PACKED_ROOM];
-    let read = job::read(text, &mut packed);
-    match read {
-        Done::Refused(why) => refuse::job(why),
-        Done::Bytes(size) => start(&packed, size, board),
-    }
-}
+// The arguments of a call that names both files: the program's own name is the first.
+const NAMED: usize = 3;
 
 // Plays the first `size` bytes of packed events, if the board is one.
 fn start(packed: &[u8], size: usize, board: &[u8]) {
@@ -38,44 +33,62 @@ fn start(packed: &[u8], size: usize, board: &[u8]) {
         );
         return;
     }
-    play::play(&packed[0..file::least(size, packed.len())], board);
+    if size <= packed.len() {
+        play::play(&packed[0..size], board);
+    }
 }
 
+// Plays the events of a text on a board.
+fn perform(text: &[u8], board: &[u8]) {
+    let mut packed = [0u8; PACKED_ROOM];
+    let read = job::read(text, &mut packed);
+    match read {
+        Done::Bytes(size) => start(&packed, size, board),
+        Done::Refused(why) => refuse::say(
+            why,
+            b"[The job has more than 60000 bytes. Take out lines that it does not need.|Line # of the job is malformed. Correct it: a line is A, or Q, a tab, 16 digits, a tab and the data, with as many bytes as the setup asks for, in upper case hexadecimal, and ends with LF alone.]\n",
+        ),
+    }
+}
+
+// Reads a file, or refuses for it.
+fn load(argument: usize, file: &[u8], buffer: &mut [u8]) -> Got
+    ensures { λ r. ⌜ r .count ≤ length (now (buffer .exit)) ⌝ }
+{
+    let got = files::read(argument, file, buffer);
+    if !got.is_read {
+        refuse::unreadable(got, argument, file);
+    }
+    got
+}
+
+// Reads the board for a job.
+fn equip(text: &[u8]) {
+    let mut board = [0u8; BOARD_ROOM];
+    let got = load(2, b"board|board.bin|job and board", &mut board);
+    if got.is_read {
+        let count = got.count;
+        perform(text, &board[0..count]);
+    }
+}
+
+// Reads the job.
 fn load_and_play() {
     let mut text = [0u8; TEXT_ROOM];
-    let mut board = [0u8; BOARD_ROOM];
-    let job = file::load(1, b"job.txt", &mut text);
-    let memory = file::load(2, b"board.bin", &mut board);
-    if !job.readable {
-        refuse::unreadable(
-            1,
-            b"The job (job.txt in this folder)",
-            b"The job (the first argument)",
-            job.error,
-        );
-        return;
+    let got = load(1, b"job|job.txt|job and board", &mut text);
+    if got.is_read {
+        let count = got.count;
+        equip(&text[0..count]);
     }
-    if !memory.readable {
-        refuse::unreadable(
-            2,
-            b"The board (board.bin in this folder)",
-            b"The board (the second argument)",
-            memory.error,
-        );
-        return;
-    }
-    let job_bytes = job.count;
-    let board_bytes = memory.count;
-    perform(&text[0..job_bytes], &board[0..board_bytes]);
 }
 
 fn main() {
-    if file::is_named(3) {
-        refuse::say(
-            Refusal::File,
-            b"Name two files, the job and the board, or none to take job.txt and board.bin in this folder.\n",
-        );
+    if os::arg_count() <= NAMED {
+        load_and_play();
         return;
     }
-    load_and_play();
+    refuse::say(
+        Refusal::File,
+        b"Name two files, the job and the board, or none to take job.txt and board.bin in this folder.\n",
+    );
 }

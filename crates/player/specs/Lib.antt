@@ -1,2 +1,3 @@
 pub mod Played
 pub mod Asked
+pub mod Change

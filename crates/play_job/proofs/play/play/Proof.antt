@@ -1,17 +1,17 @@
 -- `play_job::play::play` is safe and ends. Assumes nothing.
 use mathlib.Core.Path.{_≡_}
-use Prim.Native.Nat.{_-_, _≤_}
+use Prim.Native.Nat.{_-_, _+_, _≤_}
 use lib.ListN.{length}
 use borrow.Author.Needs.{needs}
 use Rattle.play_job.proofs.play.play.Statement.{statement}
 use Rattle.play_job.proofs.play.play.Tie as tie
 
 abbrev Inv-loop : tie.InvT-loop
-Inv-loop packed board memory₀ block₀ reply₀ device₀ number₀ at₀ memory block reply device number at =
-    (number ≤ at) × (at ≤ length packed) × (length memory ≡ 18448) × (length block ≡ length block₀) × (length reply ≡ length reply₀)
+Inv-loop packed board memory₀ block₀ reply₀ device₀ number₀ at₀ size₀ memory block reply device number at size =
+    (number ≤ at) × (at + size ≤ length packed) × (length memory ≡ 18448) × (length block ≡ length block₀) × (length reply ≡ length reply₀)
 
 abbrev μ-loop : tie.MeasureT-loop
-μ-loop packed board memory₀ block₀ reply₀ device₀ number₀ at₀ memory block reply device number at =
+μ-loop packed board memory₀ block₀ reply₀ device₀ number₀ at₀ size₀ memory block reply device number at size =
     length packed - at
 
 slice-aggregate-put : tie.Need-slice-aggregate-put Inv-loop μ-loop
@@ -20,11 +20,14 @@ slice-aggregate-put c = search needs
 put-requires : tie.Need-put-requires Inv-loop μ-loop
 put-requires c κs = search needs
 
+piece-length-requires : tie.Need-piece-length-requires Inv-loop μ-loop
+piece-length-requires c κs = search needs
+
 loop-holds : tie.Need-loop-holds Inv-loop μ-loop
 loop-holds c = search needs
 
-end-of-requires : tie.Need-end-of-requires Inv-loop μ-loop
-end-of-requires c κs = search needs
+add-end : tie.Need-add-end Inv-loop μ-loop
+add-end c = search needs
 
 add-number : tie.Need-add-number Inv-loop μ-loop
 add-number c = search needs
@@ -50,6 +53,18 @@ slice-aggregate-turn-3 c = search needs
 turn-requires : tie.Need-turn-requires Inv-loop μ-loop
 turn-requires c κs = search needs
 
+sub-piece-length : tie.Need-sub-piece-length Inv-loop μ-loop
+sub-piece-length c = search needs
+
+part-piece-length-start : tie.Need-part-piece-length-start Inv-loop μ-loop
+part-piece-length-start c = search needs
+
+part-piece-length-end : tie.Need-part-piece-length-end Inv-loop μ-loop
+part-piece-length-end c = search needs
+
+piece-length-requires-2 : tie.Need-piece-length-requires-2 Inv-loop μ-loop
+piece-length-requires-2 c κs = search needs
+
 loop-less : tie.Need-loop-less Inv-loop μ-loop
 loop-less c = search needs
 
@@ -73,8 +88,9 @@ play-spec =
     μ-loop
     slice-aggregate-put
     put-requires
+    piece-length-requires
     loop-holds
-    end-of-requires
+    add-end
     add-number
     sub-turn
     part-turn-start
@@ -83,6 +99,10 @@ play-spec =
     slice-aggregate-turn-2
     slice-aggregate-turn-3
     turn-requires
+    sub-piece-length
+    part-piece-length-start
+    part-piece-length-end
+    piece-length-requires-2
     loop-less
     loop-again
     slice-aggregate-conclude

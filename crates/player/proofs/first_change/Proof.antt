@@ -1,12 +1,12 @@
--- `play_job::change::first` meets its contract. Assumes nothing.
+-- `player::first_change` meets its contract. Assumes nothing.
 use mathlib.Core.Path.{_≡_, refl, _∙_, sym}
 use Prim.Native.Nat.{_-_, _≤_}
 use native.Mathlib.Omega.{arith}
 use borrow.Author.Needs.{needs}
-use Rattle.play_job.specs.Change.{firstChange}
-use Rattle.play_job.proofs.Places.{first-turn, first-stop, first-end}
-use Rattle.play_job.proofs.change.first.Statement.{statement}
-use Rattle.play_job.proofs.change.first.Tie as tie
+use Rattle.player.specs.Change.{firstChange}
+use Rattle.player.proofs.Places.{first-turn, first-stop, first-end}
+use Rattle.player.proofs.first_change.Statement.{statement}
+use Rattle.player.proofs.first_change.Tie as tie
 
 abbrev Inv-loop : tie.InvT-loop
 Inv-loop old new from to i₀ i = (firstChange old new (to - i) i ≡ firstChange old new (to - from) from) × (from ≤ i)
@@ -38,8 +38,8 @@ loop-again c = (sym (first-turn _ _ _ _ _ _ (c .before .before .before .loop-tes
 returns-2 : tie.Need-returns-2 Inv-loop μ-loop
 returns-2 c = (sym (first-end _ _ _ _ (c .loop-test .left)) ∙ c .before .loop .inv .0, c .before .loop .inv .1)
 
-pub first-spec : {M : Type 1} → statement M
-first-spec =
+pub first-change-spec : {M : Type 1} → statement M
+first-change-spec =
     tie.close
     (tie.spec
     Inv-loop
