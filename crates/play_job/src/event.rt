@@ -3,12 +3,13 @@ use device::Device;
 use device::Pending;
 use loader::Answer;
 use loader::Event;
+use loader::Stepped;
 use player::Asked;
 use request::Request;
 use request::Setup;
 
-// Room for the longest name of a request and a bar.
-const NAME_ROOM: usize = 64;
+// Room for the longest names of a request, a mode and a status, and a bar behind each.
+const NAMES_ROOM: usize = 80;
 
 // A part of a sentence as the sentence counts it, and the number in it.
 pub struct Part {
@@ -109,23 +110,34 @@ fn answered(answer: Answer) -> Part {
     }
 }
 
-// What the event asks of a device with this pointer, and the answer.
+// The names of the device's mode and status, with a bar behind each.
+fn names(device: Device, out: &mut [u8], at: usize) {
+    let mode = device.mode;
+    let end = words::mode(mode, out, at);
+    let end = words::say(b"|", out, end);
+    let end = words::status(device.status, out, end);
+    words::say(b"|", out, end);
+}
+
+// What an event asked of a device with this pointer, and what became of it.
 pub(crate) fn tell(
     number: usize,
     pointer: u32,
     asked: Asked,
-    answer: Answer,
+    stepped: Stepped,
     out: &mut [u8],
 ) -> usize {
-    let mut name = [0u8; NAME_ROOM];
+    let mut texts = [0u8; NAMES_ROOM];
     let setup = asked.setup;
     let extent = extent(asked);
     let aim = purpose(pointer, asked);
+    let answer = stepped.answer;
     let told = answered(answer);
-    let end = words::request(setup.request(), &mut name, 0);
-    words::say(b"|", &mut name, end);
+    let end = words::request(setup.request(), &mut texts, 0);
+    let end = words::say(b"|", &mut texts, end);
+    names(stepped.device, &mut texts, end);
     sentence::fill(
-        b"#. [attach|$][||, block #, length #][|, leave|, no command|, mass erase|, read unprotect|, list commands|, set pointer @|, erase page of @|, write to @|, read from @]: [accepted|reply of length #|stall|silent|refused, #]",
+        b"#. [attach|$][||, block #, length #][|, leave|, no command|, mass erase|, read unprotect|, list commands|, set pointer @|, erase page of @|, write to @|, read from @]: [accepted|reply of length #|stall|silent|refused, #]; $, $",
         &[
             number,
             extent,
@@ -141,17 +153,21 @@ pub(crate) fn tell(
             told.number,
             told.number,
         ],
-        &name,
+        &texts,
         out,
         0,
     )
 }
 
-// The device's mode and status.
-pub(crate) fn state(device: Device, out: &mut [u8], at: usize) -> usize {
-    let mode = device.mode;
-    let end = words::say(b"; ", out, at);
-    let end = words::mode(mode, out, end);
-    let end = words::say(b", ", out, end);
-    words::status(device.status, out, end)
+// How many events there were, and the device after them.
+pub(crate) fn sum_up(number: usize, device: Device, out: &mut [u8]) -> usize {
+    let mut texts = [0u8; NAMES_ROOM];
+    names(device, &mut texts, 0);
+    sentence::fill(
+        b"# event[s||s]; $, $; pointer @",
+        &[number, number, device.pointer as usize],
+        &texts,
+        out,
+        0,
+    )
 }

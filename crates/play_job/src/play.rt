@@ -15,16 +15,32 @@ const TRANSFER: usize = Setup::TRANSFER as usize;
 // Room for a line in which every part differs.
 const LINE_ROOM: usize = 1200;
 
+// How a line ends, as the sentence counts it.
+fn ending(lead: usize, differs: bool) -> usize {
+    if lead == change::INLINE {
+        return 0;
+    }
+    if differs { 2 } else { 1 }
+}
+
+// Adds to a line what differs, and prints it.
+fn finish(line: &mut [u8], end: usize, lead: usize, old: &[u8], new: &[u8]) {
+    let listed = change::list(old, new, lead, line, end);
+    let size = sentence::fill(
+        b"[|\nnothing differs from before|\nall else is as before]\n",
+        &[ending(lead, listed != end)],
+        b"",
+        line,
+        listed,
+    );
+    refuse::write(STDOUT_FILENO, line, size);
+}
+
 // Prints the line of an event that happened to a device with this pointer, and what it changed.
 fn print(number: usize, pointer: u32, asked: Asked, stepped: Stepped, old: &[u8], new: &[u8]) {
     let mut line = [0u8; LINE_ROOM];
-    let answer = stepped.answer;
-    let device = stepped.device;
-    let end = event::tell(number, pointer, asked, answer, &mut line);
-    let end = event::state(device, &mut line, end);
-    let end = change::list(old, new, change::INLINE, &mut line, end);
-    let end = words::say(b"\n", &mut line, end);
-    refuse::write(STDOUT_FILENO, &line, end);
+    let end = event::tell(number, pointer, asked, stepped, &mut line);
+    finish(&mut line, end, change::INLINE, old, new);
 }
 
 // Lets an event happen and prints its line; gives the device after it.
@@ -46,27 +62,11 @@ fn turn(
     stepped.device
 }
 
-// Whether a part differs, as a number that picks.
-fn some(differs: bool) -> usize {
-    if differs { 1 } else { 0 }
-}
-
 // Prints the device and the differences that the whole job made.
-fn conclude(device: Device, number: usize, old: &[u8], new: &[u8]) {
+fn conclude(number: usize, device: Device, old: &[u8], new: &[u8]) {
     let mut line = [0u8; LINE_ROOM];
-    let end = sentence::fill(b"# event[s||s]", &[number, number], b"", &mut line, 0);
-    let end = event::state(device, &mut line, end);
-    let end = words::say(b"; pointer ", &mut line, end);
-    let end = words::address(device.pointer, &mut line, end);
-    let listed = change::list(old, new, change::ALONE, &mut line, end);
-    let end = sentence::fill(
-        b"\n[nothing differs from|all else is as] before\n",
-        &[some(listed != end)],
-        b"",
-        &mut line,
-        listed,
-    );
-    refuse::write(STDOUT_FILENO, &line, end);
+    let end = event::sum_up(number, device, &mut line);
+    finish(&mut line, end, change::ALONE, old, new);
 }
 
 // Plays packed events on a board that was just attached.
@@ -95,5 +95,5 @@ pub(crate) fn play(packed: &[u8], board: &[u8])
         at = end;
         size = job::piece_length(&packed[at..]);
     }
-    conclude(device, number, board, &memory);
+    conclude(number, device, board, &memory);
 }
