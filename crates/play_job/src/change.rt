@@ -1,14 +1,10 @@
 // Where two memories differ, in words.
 ghost use mathlib.Core.Path.{_≡_};
-ghost use Prim.Native.Nat.{_≤_};
+ghost use Prim.Native.Nat.{_≤_, _<_};
 use board::Board;
 
 // The parts that are told apart: the pages, then RAM, then the options.
-const PAGES: usize = 16;
-
-const PARTS: usize = 18;
-
-const RAM_FROM: usize = PAGES * Board::PAGE;
+const RAM_FROM: usize = Board::LOGGER.pages as usize * Board::PAGE;
 
 const OPTIONS_FROM: usize = RAM_FROM + Board::RAM_BYTES;
 
@@ -19,67 +15,57 @@ pub const INLINE: usize = 0;
 
 pub const ALONE: usize = 1;
 
-// A part by its places; `name` is how the sentence counts it.
+// The part of a place: how the sentence counts it, the number of its page, where it ends, and the place's address.
 struct Part {
     name: usize,
-    from: usize,
+    page: usize,
     to: usize,
     address: usize,
 }
 
-fn part_of(number: usize) -> Part
-    ensures { λ r. ⌜ (r .to ≤ 18448) × (r .address ≤ 0x2000_0000) ⌝ }
+fn part_of(place: usize) -> Part
+    requires { ⌜ place < 18448 ⌝ }
+    ensures { λ r. ⌜ place < r .to ⌝ }
 {
-    if number < PAGES {
-        let from = number * Board::PAGE;
+    if place < RAM_FROM {
+        let page = place / Board::PAGE;
         return Part {
             name: 0,
-            from,
-            to: from + Board::PAGE,
-            address: Board::FLASH as usize + from,
+            page,
+            to: (page + 1) * Board::PAGE,
+            address: Board::FLASH as usize + place,
         };
     }
-    if number == PAGES {
+    if place < OPTIONS_FROM {
         return Part {
             name: 1,
-            from: RAM_FROM,
+            page: 0,
             to: OPTIONS_FROM,
-            address: Board::RAM as usize,
+            address: Board::RAM as usize + (place - RAM_FROM),
         };
     }
     Part {
         name: 2,
-        from: OPTIONS_FROM,
+        page: 0,
         to: MEMORY,
-        address: Board::OPTIONS as usize,
+        address: Board::OPTIONS as usize + (place - OPTIONS_FROM),
     }
 }
 
-// That a part differs from a place on; nothing where that is not in it.
-fn tell(part: Part, number: usize, place: usize, lead: usize, out: &mut [u8], at: usize) -> usize
-    requires { ⌜ (part .from ≤ place) × (part .to ≤ 18448) × (part .address ≤ 0x2000_0000) ⌝ }
-{
-    if part.to <= place {
-        return at;
-    }
-    sentence::fill(
-        b"[; |\n][page #|RAM|the option block] differs from @ on",
-        &[lead, part.name, number, part.address + (place - part.from)],
-        b"",
-        out,
-        at,
-    )
-}
-
-// Every part that differs.
+// Every part that differs, with the first place that does.
 pub(crate) fn list(old: &[u8], new: &[u8], lead: usize, out: &mut [u8], at: usize) -> usize {
     let mut end = at;
-    let mut number = 0;
-    while number < PARTS {
-        let part = part_of(number);
-        let place = player::first_change(old, new, part.from, part.to);
-        end = tell(part, number, place, lead, out, end);
-        number += 1;
+    let mut place = player::first_change(old, new, 0, MEMORY);
+    while place < MEMORY {
+        let part = part_of(place);
+        end = sentence::fill(
+            b"[; |\n][page #|RAM|the option block] differs from @ on",
+            &[lead, part.name, part.page, part.address],
+            b"",
+            out,
+            end,
+        );
+        place = player::first_change(old, new, part.to, MEMORY);
     }
     end
 }

@@ -12,10 +12,19 @@ use request::Setup;
 const NAMES_ROOM: usize = 80;
 
 // A part of a sentence as the sentence counts it, and the number in it.
-pub struct Part {
-    pub part: usize,
-    pub number: usize,
+struct Part {
+    part: usize,
+    number: usize,
 }
+
+// What a request is for: whether it has a block, and the parts that say what is sent or read.
+struct Aim {
+    extent: usize,
+    download: Part,
+    upload: usize,
+}
+
+const NOTHING: Part = Part { part: 0, number: 0 };
 
 // What a DNLOAD without a command is for: to leave, or nothing; block 1 has no words.
 fn idle(setup: Setup) -> usize {
@@ -28,16 +37,8 @@ fn idle(setup: Setup) -> usize {
     0
 }
 
-// The address of a request's block.
-fn target(part: usize, pointer: u32, setup: Setup) -> Part {
-    Part {
-        part,
-        number: action::block_address(setup.value, setup.length, pointer) as usize,
-    }
-}
-
 // What a DNLOAD is for.
-fn download(pointer: u32, setup: Setup, pending: Pending) -> Part {
+fn download(setup: Setup, pending: Pending) -> Part {
     match pending {
         Pending::Nothing => Part {
             part: idle(setup),
@@ -46,57 +47,57 @@ fn download(pointer: u32, setup: Setup, pending: Pending) -> Part {
         Pending::MassErase => Part { part: 3, number: 0 },
         Pending::ReadUnprotect => Part { part: 4, number: 0 },
         Pending::SetPointer(address) => Part {
-            part: 6,
+            part: 5,
             number: address as usize,
         },
         Pending::ErasePage(address) => Part {
-            part: 7,
+            part: 6,
             number: address as usize,
         },
-        Pending::Write { block: _, count: _ } => target(8, pointer, setup),
+        Pending::Write { block: _, count: _ } => Part { part: 7, number: 0 },
     }
 }
 
-// What an UPLOAD is for.
-fn upload(pointer: u32, setup: Setup) -> Part {
-    let block = setup.value;
-    match block {
-        0 => Part { part: 5, number: 0 },
-        1 => Part { part: 0, number: 0 },
-        _ => target(9, pointer, setup),
+// An Attach has no name, and a request without a block has a name only.
+fn bare(event: Event) -> Aim {
+    match event {
+        Event::Attach => Aim {
+            extent: 0,
+            download: NOTHING,
+            upload: 0,
+        },
+        Event::Request => Aim {
+            extent: 1,
+            download: NOTHING,
+            upload: 0,
+        },
     }
 }
 
-// What an event is for.
-fn purpose(pointer: u32, asked: Asked) -> Part {
+// What an event is for. The parts of an UPLOAD go by its block.
+fn aim_of(asked: Asked) -> Aim {
+    let event = asked.event;
     let setup = asked.setup;
     let pending = asked.pending;
     let request = setup.request();
     match request {
-        Request::Download => download(pointer, setup, pending),
-        Request::Upload => upload(pointer, setup),
-        _ => Part { part: 0, number: 0 },
-    }
-}
-
-// How much is said of it: that it is an Attach, the request's name, or that with block and length.
-fn extent(asked: Asked) -> usize {
-    let event = asked.event;
-    let setup = asked.setup;
-    let request = setup.request();
-    match event {
-        Event::Attach => 0,
-        Event::Request => match request {
-            Request::Download => 2,
-            Request::Upload => 2,
-            _ => 1,
+        Request::Download => Aim {
+            extent: 2,
+            download: download(setup, pending),
+            upload: 0,
         },
+        Request::Upload => Aim {
+            extent: 2,
+            download: NOTHING,
+            upload: setup.value as usize + 1,
+        },
+        _ => bare(event),
     }
 }
 
 fn answered(answer: Answer) -> Part {
     match answer {
-        Answer::Accepted => Part { part: 0, number: 0 },
+        Answer::Accepted => NOTHING,
         Answer::Reply(count) => Part {
             part: 1,
             number: count,
@@ -129,26 +130,28 @@ pub(crate) fn tell(
 ) -> usize {
     let mut texts = [0u8; NAMES_ROOM];
     let setup = asked.setup;
-    let extent = extent(asked);
-    let aim = purpose(pointer, asked);
+    let aim = aim_of(asked);
+    let command = aim.download;
+    let from = action::block_address(setup.value, setup.length, pointer) as usize;
     let answer = stepped.answer;
     let told = answered(answer);
     let end = words::request(setup.request(), &mut texts, 0);
     let end = words::say(b"|", &mut texts, end);
     names(stepped.device, &mut texts, end);
     sentence::fill(
-        b"#. [attach|$][||, block #, length #][|, leave|, no command|, mass erase|, read unprotect|, list commands|, set pointer @|, erase page of @|, write to @|, read from @]: [accepted|reply of length #|stall|silent|refused, #]; $, $",
+        b"#. [attach|$][||, block #, length #][|, leave|, no command|, mass erase|, read unprotect|, set pointer @|, erase page of @|, write to @][|, list commands||, read from @]: [accepted|reply of length #|stall|silent|refused, #]; $, $",
         &[
             number,
-            extent,
-            extent,
+            aim.extent,
+            aim.extent,
             setup.value as usize,
             setup.length as usize,
-            aim.part,
-            aim.number,
-            aim.number,
-            aim.number,
-            aim.number,
+            command.part,
+            command.number,
+            command.number,
+            from,
+            aim.upload,
+            from,
             told.part,
             told.number,
             told.number,

@@ -24,26 +24,14 @@ const PACKED_ROOM: usize = job::LIMIT / 2;
 // The arguments of a call that names both files: the program's own name is the first.
 const NAMED: usize = 3;
 
-// Plays the first `size` bytes of packed events, if the board is one.
-fn start(packed: &[u8], size: usize, board: &[u8]) {
-    if board.len() != change::MEMORY {
-        refuse::say(
-            Refusal::Memory,
-            b"A board has 18448 bytes: 16384 of flash, 2048 of RAM, 16 of options. Give a file of that size.\n",
-        );
-        return;
-    }
-    if size <= packed.len() {
-        play::play(&packed[0..size], board);
-    }
-}
-
 // Plays the events of a text on a board.
 fn perform(text: &[u8], board: &[u8]) {
     let mut packed = [0u8; PACKED_ROOM];
     let read = job::read(text, &mut packed);
     match read {
-        Done::Bytes(size) => start(&packed, size, board),
+        Done::Bytes(size) => if size <= packed.len() {
+            play::play(&packed[0..size], board);
+        },
         Done::Refused(why) => refuse::say(
             why,
             b"[The job has more than 60000 bytes. Take out lines that it does not need.|Line # of the job is malformed. Correct it: a line is A, or Q, a tab, 16 digits, a tab and the data, with as many bytes as the setup asks for, in upper case hexadecimal, and ends with LF alone.]\n",
@@ -62,24 +50,20 @@ fn load(argument: usize, file: &[u8], buffer: &mut [u8]) -> Got
     got
 }
 
-// Reads the board for a job.
-fn equip(text: &[u8]) {
-    let mut board = [0u8; BOARD_ROOM];
-    let got = load(2, b"board|board.bin|job and board", &mut board);
-    if got.is_read {
-        let count = got.count;
-        perform(text, &board[0..count]);
-    }
-}
-
-// Reads the job.
 fn load_and_play() {
     let mut text = [0u8; TEXT_ROOM];
-    let got = load(1, b"job|job.txt|job and board", &mut text);
-    if got.is_read {
-        let count = got.count;
-        equip(&text[0..count]);
+    let mut board = [0u8; BOARD_ROOM];
+    let job = load(1, b"job|job.txt|job and board", &mut text);
+    if !job.is_read {
+        return;
     }
+    let memory = load(2, b"board|board.bin|job and board", &mut board);
+    if !memory.is_read {
+        return;
+    }
+    let job_bytes = job.count;
+    let board_bytes = memory.count;
+    perform(&text[0..job_bytes], &board[0..board_bytes]);
 }
 
 fn main() {

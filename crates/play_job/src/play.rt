@@ -8,6 +8,7 @@ use device::Device;
 use libc::STDOUT_FILENO;
 use loader::Stepped;
 use player::Asked;
+use refusal::Refusal;
 use request::Setup;
 
 const TRANSFER: usize = Setup::TRANSFER as usize;
@@ -15,32 +16,13 @@ const TRANSFER: usize = Setup::TRANSFER as usize;
 // Room for a line in which every part differs.
 const LINE_ROOM: usize = 1200;
 
-// How a line ends, as the sentence counts it.
-fn ending(lead: usize, differs: bool) -> usize {
-    if lead == change::INLINE {
-        return 0;
-    }
-    if differs { 2 } else { 1 }
-}
-
-// Adds to a line what differs, and prints it.
-fn finish(line: &mut [u8], end: usize, lead: usize, old: &[u8], new: &[u8]) {
-    let listed = change::list(old, new, lead, line, end);
-    let size = sentence::fill(
-        b"[|\nnothing differs from before|\nall else is as before]\n",
-        &[ending(lead, listed != end)],
-        b"",
-        line,
-        listed,
-    );
-    refuse::write(STDOUT_FILENO, line, size);
-}
-
 // Prints the line of an event that happened to a device with this pointer, and what it changed.
 fn print(number: usize, pointer: u32, asked: Asked, stepped: Stepped, old: &[u8], new: &[u8]) {
     let mut line = [0u8; LINE_ROOM];
     let end = event::tell(number, pointer, asked, stepped, &mut line);
-    finish(&mut line, end, change::INLINE, old, new);
+    let end = change::list(old, new, change::INLINE, &mut line, end);
+    let end = words::say(b"\n", &mut line, end);
+    refuse::write(STDOUT_FILENO, &line, end);
 }
 
 // Lets an event happen and prints its line; gives the device after it.
@@ -62,17 +44,35 @@ fn turn(
     stepped.device
 }
 
+// Whether something differs, as a number that picks.
+fn some(differs: bool) -> usize {
+    if differs { 1 } else { 0 }
+}
+
 // Prints the device and the differences that the whole job made.
 fn conclude(number: usize, device: Device, old: &[u8], new: &[u8]) {
     let mut line = [0u8; LINE_ROOM];
     let end = event::sum_up(number, device, &mut line);
-    finish(&mut line, end, change::ALONE, old, new);
+    let listed = change::list(old, new, change::ALONE, &mut line, end);
+    let end = sentence::fill(
+        b"\n[nothing differs from|all else is as] before\n",
+        &[some(listed != end)],
+        b"",
+        &mut line,
+        listed,
+    );
+    refuse::write(STDOUT_FILENO, &line, end);
 }
 
-// Plays packed events on a board that was just attached.
-pub(crate) fn play(packed: &[u8], board: &[u8])
-    requires { ⌜ length (now board) ≡ 18448 ⌝ }
-{
+// Plays packed events on a board that was just attached, if it is one.
+pub(crate) fn play(packed: &[u8], board: &[u8]) {
+    if board.len() != change::MEMORY {
+        refuse::say(
+            Refusal::Memory,
+            b"A board has 18448 bytes: 16384 of flash, 2048 of RAM, 16 of options. Give a file of that size.\n",
+        );
+        return;
+    }
     let mut memory = [0u8; change::MEMORY];
     let mut block = [0u8; TRANSFER];
     let mut reply = [0u8; TRANSFER];

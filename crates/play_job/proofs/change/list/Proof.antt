@@ -7,11 +7,14 @@ use Rattle.play_job.proofs.change.list.Statement.{statement}
 use Rattle.play_job.proofs.change.list.Tie as tie
 
 abbrev Inv-loop : tie.InvT-loop
-Inv-loop old new lead out₀ at end₀ number₀ out end number =
-    (number ≤ 18) × (length out ≡ length out₀)
+Inv-loop old new lead out₀ at end₀ place₀ t9 t10 out end place =
+    length out ≡ length out₀
 
 abbrev μ-loop : tie.MeasureT-loop
-μ-loop old new lead out₀ at end₀ number₀ out end number = 18 - number
+μ-loop old new lead out₀ at end₀ place₀ t9 t10 out end place = 18448 - place
+
+first-change-requires : tie.Need-first-change-requires Inv-loop μ-loop
+first-change-requires c κs = search needs
 
 loop-holds : tie.Need-loop-holds Inv-loop μ-loop
 loop-holds c = search needs
@@ -19,14 +22,20 @@ loop-holds c = search needs
 part-of-requires : tie.Need-part-of-requires Inv-loop μ-loop
 part-of-requires c κs = search needs
 
-first-change-requires : tie.Need-first-change-requires Inv-loop μ-loop
-first-change-requires c κs = search needs
+slice-aggregate-fill : tie.Need-slice-aggregate-fill Inv-loop μ-loop
+slice-aggregate-fill c = search needs
 
-tell-requires : tie.Need-tell-requires Inv-loop μ-loop
-tell-requires c κs = search needs
+slice-aggregate-fill-2 : tie.Need-slice-aggregate-fill-2 Inv-loop μ-loop
+slice-aggregate-fill-2 c = search needs
 
-add-number : tie.Need-add-number Inv-loop μ-loop
-add-number c = search needs
+slice-aggregate-fill-3 : tie.Need-slice-aggregate-fill-3 Inv-loop μ-loop
+slice-aggregate-fill-3 c = search needs
+
+fill-requires : tie.Need-fill-requires Inv-loop μ-loop
+fill-requires c κs = search needs
+
+first-change-requires-2 : tie.Need-first-change-requires-2 Inv-loop μ-loop
+first-change-requires-2 c κs = search needs
 
 loop-less : tie.Need-loop-less Inv-loop μ-loop
 loop-less c = search needs
@@ -46,11 +55,14 @@ list-spec =
     (tie.spec
     Inv-loop
     μ-loop
+    first-change-requires
     loop-holds
     part-of-requires
-    first-change-requires
-    tell-requires
-    add-number
+    slice-aggregate-fill
+    slice-aggregate-fill-2
+    slice-aggregate-fill-3
+    fill-requires
+    first-change-requires-2
     loop-less
     loop-again
     same-length

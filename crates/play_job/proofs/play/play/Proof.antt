@@ -14,6 +14,15 @@ abbrev μ-loop : tie.MeasureT-loop
 μ-loop packed board memory₀ block₀ reply₀ device₀ number₀ at₀ size₀ memory block reply device number at size =
     length packed - at
 
+slice-aggregate-say : tie.Need-slice-aggregate-say Inv-loop μ-loop
+slice-aggregate-say c = search needs
+
+say-requires : tie.Need-say-requires Inv-loop μ-loop
+say-requires c κs = search needs
+
+returns : tie.Need-returns Inv-loop μ-loop
+returns c = search needs
+
 slice-aggregate-put : tie.Need-slice-aggregate-put Inv-loop μ-loop
 slice-aggregate-put c = search needs
 
@@ -77,8 +86,8 @@ slice-aggregate-conclude c = search needs
 conclude-requires : tie.Need-conclude-requires Inv-loop μ-loop
 conclude-requires c κs = search needs
 
-returns : tie.Need-returns Inv-loop μ-loop
-returns c = search needs
+returns-2 : tie.Need-returns-2 Inv-loop μ-loop
+returns-2 c = search needs
 
 pub play-spec : {M : Type 1} → statement M
 play-spec =
@@ -86,6 +95,9 @@ play-spec =
     (tie.spec
     Inv-loop
     μ-loop
+    slice-aggregate-say
+    say-requires
+    returns
     slice-aggregate-put
     put-requires
     piece-length-requires
@@ -107,4 +119,4 @@ play-spec =
     loop-again
     slice-aggregate-conclude
     conclude-requires
-    returns)
+    returns-2)
