@@ -8,8 +8,8 @@ use player::Asked;
 use request::Request;
 use request::Setup;
 
-// Room for the longest names of a request, a mode and a status, and a bar behind each.
-const NAMES_ROOM: usize = 80;
+// Room for the longest name of a request, or of a mode and a status, and a bar behind each.
+const NAMES_ROOM: usize = 64;
 
 // A part of a sentence as the sentence counts it, and the number in it.
 struct Part {
@@ -111,35 +111,17 @@ fn answered(answer: Answer) -> Part {
     }
 }
 
-// The names of the device's mode and status, with a bar behind each.
-fn names(device: Device, out: &mut [u8], at: usize) {
-    let mode = device.mode;
-    let end = words::mode(mode, out, at);
-    let end = words::say(b"|", out, end);
-    let end = words::status(device.status, out, end);
-    words::say(b"|", out, end);
-}
-
-// What an event asked of a device with this pointer, and what became of it.
-pub(crate) fn tell(
-    number: usize,
-    pointer: u32,
-    asked: Asked,
-    stepped: Stepped,
-    out: &mut [u8],
-) -> usize {
-    let mut texts = [0u8; NAMES_ROOM];
+// What an event asks of a device with this pointer.
+pub(crate) fn request(number: usize, pointer: u32, asked: Asked, out: &mut [u8]) -> usize {
+    let mut name = [0u8; NAMES_ROOM];
     let setup = asked.setup;
     let aim = aim_of(asked);
     let command = aim.download;
     let from = action::block_address(setup.value, setup.length, pointer) as usize;
-    let answer = stepped.answer;
-    let told = answered(answer);
-    let end = words::request(setup.request(), &mut texts, 0);
-    let end = words::say(b"|", &mut texts, end);
-    names(stepped.device, &mut texts, end);
+    let end = words::request(setup.request(), &mut name, 0);
+    words::say(b"|", &mut name, end);
     sentence::fill(
-        b"#. [attach|$][||, block #, length #][|, leave|, no command|, mass erase|, read unprotect|, set pointer @|, erase page of @|, write to @][|, list commands||, read from @]: [accepted|reply of length #|stall|silent|refused, #]; $, $",
+        b"#. [attach|$][||, block #, length #][|, leave|, no command|, mass erase|, read unprotect|, set pointer @|, erase page of @|, write to @][|, list commands||, read from @]",
         &[
             number,
             aim.extent,
@@ -152,20 +134,41 @@ pub(crate) fn tell(
             from,
             aim.upload,
             from,
-            told.part,
-            told.number,
-            told.number,
         ],
-        &texts,
+        &name,
         out,
         0,
+    )
+}
+
+// The names of the device's mode and status, with a bar behind each.
+fn names(device: Device, out: &mut [u8]) {
+    let mode = device.mode;
+    let end = words::mode(mode, out, 0);
+    let end = words::say(b"|", out, end);
+    let end = words::status(device.status, out, end);
+    words::say(b"|", out, end);
+}
+
+// What became of an event.
+pub(crate) fn outcome(stepped: Stepped, out: &mut [u8], at: usize) -> usize {
+    let mut texts = [0u8; NAMES_ROOM];
+    let answer = stepped.answer;
+    let told = answered(answer);
+    names(stepped.device, &mut texts);
+    sentence::fill(
+        b": [accepted|reply of length #|stall|silent|refused, #]; $, $",
+        &[told.part, told.number, told.number],
+        &texts,
+        out,
+        at,
     )
 }
 
 // How many events there were, and the device after them.
 pub(crate) fn sum_up(number: usize, device: Device, out: &mut [u8]) -> usize {
     let mut texts = [0u8; NAMES_ROOM];
-    names(device, &mut texts, 0);
+    names(device, &mut texts);
     sentence::fill(
         b"# event[s||s]; $, $; pointer @",
         &[number, number, device.pointer as usize],

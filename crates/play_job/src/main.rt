@@ -50,6 +50,7 @@ fn load(argument: usize, file: &[u8], buffer: &mut [u8]) -> Got
     got
 }
 
+// Reads both files, the job first.
 fn load_and_play() {
     let mut text = [0u8; TEXT_ROOM];
     let mut board = [0u8; BOARD_ROOM];

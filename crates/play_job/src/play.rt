@@ -19,7 +19,8 @@ const LINE_ROOM: usize = 1200;
 // Prints the line of an event that happened to a device with this pointer, and what it changed.
 fn print(number: usize, pointer: u32, asked: Asked, stepped: Stepped, old: &[u8], new: &[u8]) {
     let mut line = [0u8; LINE_ROOM];
-    let end = event::tell(number, pointer, asked, stepped, &mut line);
+    let end = event::request(number, pointer, asked, &mut line);
+    let end = event::outcome(stepped, &mut line, end);
     let end = change::list(old, new, change::INLINE, &mut line, end);
     let end = words::say(b"\n", &mut line, end);
     refuse::write(STDOUT_FILENO, &line, end);

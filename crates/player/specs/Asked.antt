@@ -31,7 +31,7 @@ waitsOf Status = Nothing
 abbrev pub asked : Event → Setup → Pending → Asked
 asked event setup pending = record { event = event; setup = setup; pending = pending }
 
--- the event of a piece: what it is, its setup, and the command that its data spells, by what a board that was just attached makes of it
+-- what a piece is, its setup, and the command that its data spells: the one that it leaves on a board just attached
 unfoldable pub askedOf : List ℕ → Asked
 askedOf piece =
     asked (cond (eqb (getD piece 0 0) 0) Attach Request) (setupOf (drop 1 piece))

@@ -1,5 +1,5 @@
-// Packed events on a board, for the programs that play a job to one: what an event asks for, what comes of it, and where
-// it changes something.
+// Packed events on a board, for the programs that play a job to one: what an event asks for, what comes of it, and
+// where it changes something.
 ghost use mathlib.Core.Path.{_≡_};
 ghost use mathlib.Core.Bool.{cond};
 ghost use Prim.Native.Nat.{_-_, _≤_};
