@@ -4,12 +4,12 @@
 // current folder, where it is found when there is no such argument, and all that the program takes: `job|job.txt|job
 // and board`. No contract can say what the system reads: that the bytes which came are those of the file is seen by running.
 ghost use mathlib.Core.Path.{_≡_};
-ghost use mathlib.Core.Bool.{cond};
+ghost use mathlib.Core.Bool.{true, false, cond};
 ghost use mathlib.Core.List.{[], _∷_};
 ghost use Prim.Native.Nat.{_+_, _≤_};
 ghost use lib.ListN.{length};
 ghost use Rattle.words.specs.Words.{left, saidOf};
-ghost use Rattle.files.specs.Kept.{Kept};
+ghost use Rattle.files.specs.Came.{Came};
 ghost use Rattle.files.specs.Unreadable.{causeOf, unreadableOf};
 
 // What keeps a file from being read.
@@ -21,11 +21,12 @@ pub enum Fault {
     Other,
 }
 
-// How a file came out: `count` bytes stand in front of the buffer. They are all of it, or as many as there is room for,
-// where it is read; else there is a fault.
+// How a file came out: where it is read, `count` bytes stand in front of the buffer, all of it or as many as there is
+// room for; else there is a fault, and no byte counts.
 pub struct Got {
-    pub is_read: bool,
     pub is_named: bool,
+    pub is_opened: bool,
+    pub is_read: bool,
     pub count: usize,
     pub fault: Fault,
 }
@@ -47,68 +48,68 @@ fn reason() -> Fault {
     }
 }
 
-fn failed() -> Got
-    ensures { λ r. ⌜ r .count ≡ 0 ⌝ }
+fn failed(is_opened: bool) -> Got
+    ensures { λ r. ⌜ (r .«is_opened» ≡ «is_opened») × (r .«is_read» ≡ false) × (r .count ≡ 0) ⌝ }
 {
     Got {
-        is_read: false,
         is_named: false,
+        is_opened,
+        is_read: false,
         count: 0,
         fault: reason(),
     }
 }
 
 fn came(count: usize) -> Got
-    ensures { λ r. ⌜ r .count ≡ count ⌝ }
+    ensures { λ r. ⌜ (r .«is_opened» ≡ true) × (r .«is_read» ≡ true) × (r .count ≡ count) ⌝ }
 {
     Got {
-        is_read: true,
         is_named: false,
+        is_opened: true,
+        is_read: true,
         count,
         fault: Fault::None,
     }
 }
 
-// One read. The system may do as it likes with the bytes behind those that come.
-fn take(fd: i32, chunk: &mut [u8]) -> Got
-    ensures { λ r. ⌜ r .count ≤ length (now (chunk .exit)) ⌝ }
+// One read.
+fn take(fd: i32, rest: &mut [u8]) -> Got
+    ensures { λ r. ⌜ (r .count ≤ length (now (rest .exit))) × (r .«is_opened» ≡ true) ⌝ }
 {
-    let got = libc::read(fd, chunk);
+    let got = libc::read(fd, rest);
     if got < 0 {
-        return failed();
+        return failed(true);
     }
-    came(io::count(got, chunk))
+    came(io::count(got, rest))
 }
 
-// The first bytes of `source` go over those of `buffer` from place `at` on, as many as `got` counts.
-fn keep(got: Got, source: &[u8], buffer: &mut [u8], at: usize)
-    requires { ⌜ (got .count ≤ length (now source)) × (at + got .count ≤ length (now buffer)) ⌝ }
-    ensures { λ _. ⌜ Kept (at + got .count) (now (buffer .entry)) (now (buffer .exit)) ⌝ }
-{
-    let count = got.count;
-    buffer::put(buffer, at, &source[0..count]);
-}
-
-// One read into `buffer` from place `at` on, by way of a lent chunk, so that nothing else changes.
-fn more(fd: i32, chunk: &mut [u8], buffer: &mut [u8], at: usize) -> Got
+// One read into `buffer` from place `at` on.
+fn more(fd: i32, buffer: &mut [u8], at: usize) -> Got
     requires { ⌜ at ≤ length (now buffer) ⌝ }
-    ensures { λ r. ⌜ Kept (at + r .count) (now (buffer .entry)) (now (buffer .exit)) ⌝ }
+    ensures { λ r. ⌜ (at + r .count ≤ length (now (buffer .exit))) × (r .«is_opened» ≡ true) ⌝ }
 {
-    let room = least(buffer.len() - at, chunk.len());
-    let got = take(fd, &mut chunk[0..room]);
-    keep(got, chunk, buffer, at);
-    got
+    take(fd, &mut buffer[at..])
+}
+
+// How many bytes count, of those that came: none where a read failed.
+fn counted(is_read: bool, count: usize) -> usize
+    ensures { λ r. ⌜ (r ≡ cond «is_read» count 0) × (r ≤ count) ⌝ }
+{
+    if is_read { count } else { 0 }
 }
 
 // Reads until the buffer is full, the file ends or a read fails.
-fn fill(fd: i32, chunk: &mut [u8], buffer: &mut [u8]) -> Got
-    ensures { λ r. ⌜ Kept (r .count) (now (buffer .entry)) (now (buffer .exit)) ⌝ }
+fn fill(fd: i32, buffer: &mut [u8]) -> Got
+    ensures { λ r. ⌜ (r .count ≤ length (now (buffer .exit))) × (r .«is_opened» ≡ true) × (r .«is_read» ≡ false → r .count ≡ 0) ⌝ }
 {
     let mut at = 0;
     while at < buffer.len() {
-        let got = more(fd, chunk, buffer, at);
+        let got = more(fd, buffer, at);
         if got.count == 0 {
-            return Got { count: at, ..got };
+            return Got {
+                count: counted(got.is_read, at),
+                ..got
+            };
         }
         at += got.count;
     }
@@ -135,18 +136,18 @@ fn open(is_named: bool, argument: usize, file: &[u8], path: &mut [u8]) -> i32 {
 // Reads the file, no further than the buffer goes: one of a byte more than the longest that can be right shows a file
 // that is too long.
 pub fn read(argument: usize, file: &[u8], buffer: &mut [u8]) -> Got
-    ensures { λ r. ⌜ Kept (r .count) (now (buffer .entry)) (now (buffer .exit)) ⌝ }
+    ensures { λ r. ⌜ Came r (now (buffer .entry)) (now (buffer .exit)) ⌝ }
 {
-    let mut space = io::buffer();
+    let mut path = io::buffer();
     let is_named = argument < os::arg_count();
-    let fd = open(is_named, argument, file, &mut space);
+    let fd = open(is_named, argument, file, &mut path);
     if fd < 0 {
         return Got {
             is_named,
-            ..failed()
+            ..failed(false)
         };
     }
-    let got = fill(fd, &mut space, buffer);
+    let got = fill(fd, buffer);
     libc::close(fd);
     Got { is_named, ..got }
 }
