@@ -1,96 +1,95 @@
 // Which condition at the job's end fails, and what to do.
+use crate::deed;
 use crate::place;
 use crate::say;
-use crate::trace;
-use crate::trial;
 use crate::trial::Scene;
+use device::Device;
 use mode::Mode;
 
-// What is due before the job can end.
-fn due(mode: Mode) {
-    match mode {
-        Mode::DownloadSync => say::text(b"Send the GETSTATUS that are due, and end"),
-        Mode::DownloadBusy => say::text(b"Send the GETSTATUS that is due, and end"),
-        Mode::UploadIdle => say::text(b"Send ABORT, and end"),
-        Mode::Rebooting => say::text(b"Add a line A, for the board to be attached again, and end"),
-        _ => say::text(b"End"),
-    }
+// The first option byte that is not the card's: its number, its value on the board and on the card, the last line that
+// changed it, and whether the card is read-protected.
+pub struct Altered {
+    pub number: usize,
+    pub byte: u8,
+    pub wanted: u8,
+    pub line: usize,
+    pub is_protected: bool,
 }
 
-// The job's last line.
-fn last(count: usize) {
-    if count == 0 {
-        say::text(b"The job has no line: the loader's state still is ");
-        return;
+// What is due before the job can end.
+fn due(mode: Mode) -> usize {
+    match mode {
+        Mode::ManifestSync => 0,
+        Mode::DownloadSync => 1,
+        Mode::DownloadBusy => 2,
+        Mode::UploadIdle => 3,
+        Mode::Rebooting => 4,
+        _ => 5,
     }
-    say::text(b"After the job's last line (line ");
-    say::number(count);
-    say::text(b") the loader's state is ");
 }
 
 // The loader has not left.
-pub(crate) fn stayed(scene: Scene) {
+fn stayed(mode: Mode, count: usize) {
+    let due = due(mode);
+    say::tell(
+        b"[The job has no line: the loader's state still is |After the job's last line (line #) the loader's state is ]",
+        count,
+        count,
+        0,
+        0,
+    );
+    say::mode(mode);
+    say::tell(
+        b", and the new program is not started. [Add the GETSTATUS with which the loader leaves.|Send the GETSTATUS that are due, and end|Send the GETSTATUS that is due, and end|Send ABORT, and end|Add a line A, for the board to be attached again, and end|End][| the job as a plan ends: set pointer to 0x08000000, two GETSTATUS, DNLOAD of length 0, one GETSTATUS.]",
+        due,
+        due,
+        0,
+        0,
+    );
+}
+
+// The loader leaves, by the DNLOAD of length 0 in line `left`, for another place than the flash's start, to which line
+// `pointed` set the pointer.
+fn astray(pointer: u32, pointed: usize, left: usize) {
+    say::tell(b"Line # of the job sets the pointer to ", pointed, 0, 0, 0);
+    place::span(pointer as u64, 1);
+    say::tell(
+        b", where it still is when the job leaves, and the board would start its program from there. Set the pointer to 0x08000000, with two GETSTATUS, before the DNLOAD of length 0 in line #.",
+        left,
+        0,
+        0,
+        0,
+    );
+}
+
+// What to do about options that are not the card's, from byte `number` on. Where byte 0 is not, and the card is not
+// read-protected, the job protects the board, which then takes no options back.
+fn restore(number: usize, is_protected: bool) -> usize {
+    if is_protected {
+        return 0;
+    }
+    if number == 0 { 1 } else { 2 }
+}
+
+// The options are not those of the card any more; the line runs on this device.
+fn changed(found: Altered, device: Device) {
+    deed::ran(0, found.line, device);
+    say::tell(
+        b", and option byte # is % then and not % as on the card. [The card is read-protected: lift that on the board first, which erases the flash, then check a job with no read unprotect with the card that the board has then.|That protects the board from reading. Take it out of the job.|Take it out of the job, or write the card's bytes back before the job leaves.]",
+        found.number,
+        found.byte as usize,
+        found.wanted as usize,
+        restore(found.number, found.is_protected),
+    );
+}
+
+// What the board is like after the job, on which this condition fails, and before the line that altered its options.
+pub(crate) fn explain(condition: u8, scene: Scene, found: Altered, before: Device) {
     let device = scene.device;
     let mode = device.mode;
-    last(scene.count);
-    say::mode(mode);
-    say::text(b", and the new program is not started. ");
-    if mode.wire() == 6 {
-        say::text(b"Add the GETSTATUS with which the loader leaves.");
-        return;
+    match condition {
+        1 => stayed(mode, scene.count),
+        2 => astray(device.pointer, scene.pointed, scene.left),
+        _ => changed(found, before),
     }
-    due(mode);
-    say::text(
-        b" the job as a plan ends: set pointer to 0x08000000, two GETSTATUS, DNLOAD of length 0, one GETSTATUS.",
-    );
-}
-
-// The loader leaves for another place than the flash's start, by the DNLOAD of length 0 in line `leave`. What was watched
-// is the pointer.
-pub(crate) fn astray(scene: Scene, leave: usize) {
-    let device = scene.device;
-    say::text(b"Line ");
-    say::number(scene.changed);
-    say::text(b" of the job sets the pointer to ");
-    place::point(device.pointer);
-    say::text(
-        b", where it still is when the job leaves, and the board would start its program from there. Set the pointer to 0x08000000, with two GETSTATUS, before the DNLOAD of length 0 in line ",
-    );
-    say::number(leave);
-    say::text(b".");
-}
-
-// What to do about options that are not the card's, from byte `i` on. Where byte 0 is not, and the card is not
-// read-protected, the job protects the board, which then takes no options back.
-fn restore(i: usize, is_protected: bool) {
-    if is_protected {
-        say::text(
-            b" The card is read-protected: lift that on the board first, which erases the flash, then check a job with no read unprotect with the card that the board has then.",
-        );
-        return;
-    }
-    if i == 0 {
-        say::text(b" That protects the board from reading. Take it out of the job.");
-        return;
-    }
-    say::text(b" Take it out of the job, or write the card's bytes back before the job leaves.");
-}
-
-// The options are not those of the card any more; `memory` is as after the job.
-pub(crate) fn altered(packed: &[u8], card: &[u8], memory: &mut [u8]) {
-    let i = trial::first_changed(memory, card);
-    let byte = trial::option(memory, i);
-    let place = trial::option_place(i);
-    trace::tell(
-        b"Line ",
-        trace::last(packed, packed.len(), card, place, memory),
-    );
-    say::text(b", and option byte ");
-    say::number(i);
-    say::text(b" is ");
-    say::byte(byte);
-    say::text(b" then and not ");
-    say::byte(buffer::byte_at(card, i));
-    say::text(b" as on the card.");
-    restore(i, board::locked(card, 0));
 }

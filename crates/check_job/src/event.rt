@@ -1,219 +1,163 @@
 // Why an event fails, and what to do.
-use crate::asked;
+use crate::deed;
 use crate::form;
 use crate::place;
 use crate::say;
-use crate::trial;
 use crate::trial::Scene;
-use action::Access;
 use board::Board;
 use board::Place;
-use decision::Command;
 use device::Device;
 use device::Pending;
 use mode::Mode;
+use player::Asked;
 use request::Request;
 use request::Setup;
 
-// The loader has left, by the DNLOAD of length 0 in line `leave`.
-fn gone(leave: usize) {
-    say::text(
-        b"The loader has left before this line and answers nothing. Take out the lines from here on or, where the job needs them, the DNLOAD of length 0 in line ",
-    );
-    say::number(leave);
-    say::text(b".");
-}
+// Reasons have numbers, up to 9 as the sentence in `tell` counts them. These have sentences of their own: flash that is
+// not erased, a setup that has not the form of a request, and, from the third on, requests that the mode does not take.
+const DIRTY: usize = 10;
 
-// A device that answers nothing.
-fn silent(mode: Mode, leave: usize) {
-    match mode {
-        Mode::Left => gone(leave),
-        _ => say::text(
-            b"The board reboots before this line, for its options were written or its read protection was lifted, and answers nothing. Put a line A before this one.",
-        ),
-    }
-}
+const MISSHAPED: usize = 11;
+
+const UNTIMELY: usize = 16;
 
 // What has to come before a request that the mode does not take.
-fn way(mode: Mode) {
+fn way(mode: Mode) -> usize {
     match mode {
-        Mode::DownloadSync => say::text(
-            b"A command waits then: send GETSTATUS first, which runs it.",
-        ),
-        Mode::DownloadBusy => say::text(b"Send GETSTATUS once more before it."),
-        Mode::ManifestSync => say::text(b"Put it before the DNLOAD of length 0, or take it out."),
-        _ => say::text(b"Send ABORT before it."),
+        Mode::DownloadSync => UNTIMELY,
+        Mode::DownloadBusy => UNTIMELY + 1,
+        Mode::ManifestSync => UNTIMELY + 2,
+        _ => UNTIMELY + 3,
     }
 }
 
 // A request that the mode does not take.
-fn untimely(request: Request, mode: Mode) {
-    say::text(b"In ");
-    say::mode(mode);
-    say::text(b" the loader stalls it. ");
+fn untimely(request: Request, mode: Mode) -> usize {
     match request {
-        Request::ClearStatus => say::text(
-            b"Only dfuERROR takes it, and no good job gets there: take it out.",
-        ),
+        Request::Unknown => MISSHAPED,
+        Request::ClearStatus => UNTIMELY + 4,
         _ => way(mode),
     }
 }
 
-fn misnumbered() {
-    say::text(b"The loader stalls it, for blocks are numbered from 2 on. Correct wValue.");
-}
-
-// A DNLOAD that the mode takes and the loader does not.
-fn download(setup: Setup) {
-    if setup.value == 1 {
-        misnumbered();
-        return;
-    }
-    say::text(
-        b"The loader stalls it: with wValue 0 it takes 21 and four address bytes, 41 and four, 41 alone, or 92 alone. Correct the data, or write a block with wValue 2.",
-    );
-}
-
-// The answer, and the reason if it is read protection.
-fn answered(status: u8) {
-    say::text(b"The loader reports ");
-    say::status(status);
-    if status == Device::VENDOR {
-        say::text(
-            b", for read protection is on (option byte 0 is not AA). Lift it on the board, which erases the flash, then check again with the card that the board has then.",
-        );
-    }
-}
-
-// An access that the checks refuse with this status.
-fn denied(status: u8, from: u64, count: u16) {
-    answered(status);
-    if status == Device::VENDOR {
-        return;
-    }
+// A read or a write of a block.
+fn moved(pointer: u32, block: u16, count: u16, is_protected: bool) -> usize {
+    let from = action::block_address(block, count, pointer);
     let place = Board::LOGGER.place(from, count as u64);
+    if is_protected {
+        return 4;
+    }
     match place {
-        Place::Options(_) => say::text(
-            b", for options are read and written all 16 at once, from 0x1FFFF800 on. Correct wValue or the length.",
-        ),
-        Place::Outside => say::text(
-            b", for these bytes do not lie in one region. Correct the pointer, wValue or the length.",
-        ),
-        _ => say::text(
-            b", for flash and RAM are read and written two bytes at least. Ask for two, and pad a write with FF.",
-        ),
+        Place::Flash(_) => if count < 2 { 7 } else { DIRTY },
+        Place::Ram(_) => 7,
+        Place::Options(_) => 5,
+        Place::Outside => 6,
     }
 }
 
-fn upload(device: Device, setup: Setup, memory: &[u8]) {
-    let count = setup.length;
+// The command that a GETSTATUS runs.
+fn status(pointer: u32, pending: Pending, is_protected: bool) -> usize {
+    match pending {
+        Pending::SetPointer(_) => 9,
+        Pending::Write { block, count } => moved(pointer, block, count, is_protected),
+        _ => if is_protected { 4 } else { 8 },
+    }
+}
+
+fn upload(pointer: u32, setup: Setup, is_protected: bool) -> usize {
     if setup.value == 1 {
-        misnumbered();
-        return;
+        return 2;
     }
-    let protected = Board::LOGGER.read_protected(memory);
-    let from = action::block_address(setup.value, count, device.pointer);
-    let access = action::examine_block(
-        Board::LOGGER,
-        protected,
-        setup.value,
-        count,
-        device.pointer,
+    moved(pointer, setup.value, setup.length, is_protected)
+}
+
+// A request that the mode takes.
+fn served(device: Device, setup: Setup, is_protected: bool) -> usize {
+    let pointer = device.pointer;
+    let pending = device.pending;
+    let request = setup.request();
+    match request {
+        Request::Download => if setup.value == 1 { 2 } else { 3 },
+        Request::Upload => upload(pointer, setup, is_protected),
+        _ => status(pointer, pending, is_protected),
+    }
+}
+
+// A device that answers nothing.
+fn silent(mode: Mode) -> usize {
+    match mode {
+        Mode::Left => 0,
+        _ => 1,
+    }
+}
+
+// Why the device does not do what the setup asks for.
+fn why(device: Device, setup: Setup, is_protected: bool) -> usize {
+    let mode = device.mode;
+    let request = setup.request();
+    if mode.wire() == 0 {
+        return silent(mode);
+    }
+    if mode::allowed(request, mode) {
+        return served(device, setup, is_protected);
+    }
+    untimely(request, mode)
+}
+
+fn stalls(mode: Mode, reason: usize) {
+    say::text(b"In ");
+    say::mode(mode);
+    say::tell(
+        b" the loader stalls it. [A command waits then: send GETSTATUS first, which runs it.|Send GETSTATUS once more before it.|Put it before the DNLOAD of length 0, or take it out.|Send ABORT before it.|Only dfuERROR takes it, and no good job gets there: take it out.]",
+        reason % UNTIMELY,
+        0,
+        0,
+        0,
     );
-    match access {
-        Access::Denied(status) => denied(status, from, count),
-        _ => {}
-    }
 }
 
 // A write to flash that is not erased, first at this place.
 fn dirty(first: usize) {
     say::text(b"On some board the byte at ");
     place::flash(first);
-    say::text(
-        b" is not erased by then, and the loader writes nothing and reports errWRITE. Erase ",
+    say::tell(
+        b" is not erased by then, and the loader writes nothing and reports errWRITE. Erase page # in the lines before, and write no byte twice.",
+        first / Board::PAGE,
+        0,
+        0,
+        0,
     );
-    place::page(first);
-    say::text(b" in the lines before, and write no byte twice.");
 }
 
-fn write(pointer: u32, block: u16, count: u16, memory: &[u8]) {
-    let protected = Board::LOGGER.read_protected(memory);
-    let from = action::block_address(block, count, pointer);
-    let access = action::examine_block(Board::LOGGER, protected, block, count, pointer);
-    match access {
-        Access::Denied(status) => denied(status, from, count),
-        Access::InFlash(first) => dirty(trial::first_written(memory, first)),
-        _ => {}
-    }
-}
-
-fn erase(memory: &[u8]) {
-    if Board::LOGGER.read_protected(memory) {
-        answered(Device::VENDOR);
-        return;
-    }
-    answered(Device::TARGET);
-    say::text(b", for only flash has pages. Correct the address.");
-}
-
-fn set_pointer() {
-    answered(Device::TARGET);
-    say::text(b", for the address is in no region. Correct it.");
-}
-
-// The command that a GETSTATUS runs.
-fn status(device: Device, memory: &[u8]) {
-    let pending = device.pending;
-    match pending {
-        Pending::SetPointer(_) => set_pointer(),
-        Pending::ErasePage(_) => erase(memory),
-        Pending::MassErase => erase(memory),
-        Pending::Write { block, count } => write(device.pointer, block, count, memory),
-        _ => {}
+// The reason; the loader has left by line `left`, and `dirt` is the first byte in the way of a write.
+fn tell(reason: usize, left: usize, dirt: usize, mode: Mode, setup: Setup) {
+    match reason {
+        DIRTY => dirty(dirt),
+        MISSHAPED => form::correct(setup),
+        0..=9 => say::tell(
+            b"The [loader has left before this line and answers nothing. Take out the lines from here on or, where the job needs them, the DNLOAD of length 0 in line #.|board reboots before this line, for its options were written or its read protection was lifted, and answers nothing. Put a line A before this one.|loader stalls it, for blocks are numbered from 2 on. Correct wValue.|loader stalls it: with wValue 0 it takes 21 and four address bytes, 41 and four, 41 alone, or 92 alone. Correct the data, or write a block with wValue 2.|loader reports errVENDOR, for read protection is on (option byte 0 is not AA). Lift it on the board, which erases the flash, then check again with the card that the board has then.|loader reports errTARGET, for options are read and written all 16 at once, from 0x1FFFF800 on. Correct wValue or the length.|loader reports errTARGET, for these bytes do not lie in one region. Correct the pointer, wValue or the length.|loader reports errTARGET, for flash and RAM are read and written two bytes at least. Ask for two, and pad a write with FF.|loader reports errTARGET, for only flash has pages. Correct the address.|loader reports errTARGET, for the address is in no region. Correct it.]",
+            reason,
+            left,
+            0,
+            0,
+        ),
+        _ => stalls(mode, reason),
     }
 }
 
-// A request that the mode takes.
-fn served(device: Device, setup: Setup, memory: &[u8]) {
-    let request = setup.request();
-    match request {
-        Request::Download => download(setup),
-        Request::Upload => upload(device, setup, memory),
-        Request::GetStatus => status(device, memory),
-        _ => {}
-    }
-}
-
-fn reason(device: Device, leave: usize, setup: Setup, memory: &[u8]) {
-    let mode = device.mode;
-    if mode.wire() == 0 {
-        silent(mode, leave);
-        return;
-    }
-    let request = setup.request();
-    if mode::allowed(request, mode) {
-        served(device, setup, memory);
-        return;
-    }
-    match request {
-        Request::Unknown => form::correct(setup),
-        _ => untimely(request, mode),
-    }
-}
-
-// The line of the event, its request, and the reason; `request` begins with the setup, `scene` and `memory` are as before
-// the event. What was watched is whether the loader leaves.
-pub(crate) fn explain(scene: Scene, number: usize, request: &[u8], memory: &[u8]) {
-    if request.len() < 8 {
-        return;
-    }
-    let setup = Setup::of(request);
+// The line of the event, its request, and the reason; the scene is as before the event.
+pub(crate) fn explain(line: usize, scene: Scene, asked: Asked) {
     let device = scene.device;
-    say::text(b"Line ");
-    say::number(number);
-    say::text(b" of the job is ");
-    asked::describe(device, setup, Command::of(&request[8..]));
+    let mode = device.mode;
+    let setup = asked.setup;
+    say::tell(b"Line # of the job is ", line, 0, 0, 0);
+    deed::describe(device, asked);
     say::text(b". ");
-    reason(device, scene.changed, setup, memory);
+    tell(
+        why(device, setup, scene.is_protected),
+        scene.left,
+        scene.dirt,
+        mode,
+        setup,
+    );
 }

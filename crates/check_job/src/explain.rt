@@ -1,52 +1,38 @@
 // A verdict in words.
 use crate::ends;
+use crate::ends::Altered;
 use crate::event;
 use crate::flash;
 use crate::flash::Found;
 use crate::refused;
 use crate::say;
-use crate::trace;
 use crate::trial;
-use crate::trial::Watch;
-use refusal::Done;
+use board::Board;
 use verdict::Verdict;
 
-fn passed(image: usize) {
-    say::text(
-        b"Play the job: on every board with this card, whatever its flash and RAM hold, it puts the image of ",
-    );
-    say::bytes(image);
-    say::text(b" in place and starts it.");
-}
-
 // The event that fails, and the board before it.
-fn failed(number: usize, packed: &[u8], card: &[u8], memory: &mut [u8]) {
-    if number == 0 {
-        return;
-    }
-    let scene = trial::run(packed, number - 1, card, memory, Watch::Leaving);
-    let at = scene.at;
-    if at < packed.len() {
-        event::explain(scene, number, &packed[at + 1..], memory);
-    }
+fn failed(line: usize, packed: &[u8], card: &[u8]) {
+    let scene = trial::run(packed, trial::before(line), card, 0, 0);
+    let at = say::least(scene.at, packed.len());
+    event::explain(line, scene, player::asks(&packed[at..]));
 }
 
-fn ended(condition: u8, packed: &[u8], card: &[u8], memory: &mut [u8]) {
-    let scene = trial::run(packed, packed.len(), card, memory, Watch::Pointer);
-    match condition {
-        1 => ends::stayed(scene),
-        2 => ends::astray(
-            scene,
-            trace::line(packed, packed.len(), card, Watch::Leaving, memory),
-        ),
-        _ => ends::altered(packed, card, memory),
-    }
-}
-
-// A flash byte after the job, on a board whose flash and RAM were all `old`.
-fn byte_after(offset: usize, packed: &[u8], card: &[u8], old: u8, memory: &mut [u8]) -> u8 {
-    trial::outlive(packed, card, old, memory);
-    buffer::byte_at(memory, offset)
+// The end, and which option byte is not the card's.
+fn ended(condition: u8, packed: &[u8], card: &[u8]) {
+    let all = packed.len();
+    let scene = trial::run(packed, all, card, 0, 0);
+    let number = say::least(scene.altered, trial::OPTIONS);
+    let place = trial::OPTIONS_AT + number;
+    let option = trial::run(packed, all, card, 0, place);
+    let cause = trial::run(packed, trial::before(option.changed), card, 0, place);
+    let found = Altered {
+        number,
+        byte: option.byte,
+        wanted: buffer::byte_at(card, number),
+        line: option.changed,
+        is_protected: board::locked(card, 0),
+    };
+    ends::explain(condition, scene, found, cause.device);
 }
 
 // The byte that belongs into flash at an offset, in the pages of the image.
@@ -57,45 +43,61 @@ fn wanted(offset: usize, image: &[u8]) -> u8 {
     0xFF
 }
 
-fn differs(offset: usize, packed: &[u8], image: &[u8], card: &[u8], memory: &mut [u8]) {
+// The byte that differs, on two boards, and what did something to it.
+fn differs(offset: usize, packed: &[u8], image: &[u8], card: &[u8]) {
+    let all = packed.len();
+    let page = offset / Board::PAGE;
+    let side = flash::side(offset, image.len());
+    let zero = trial::run(packed, all, card, 0, offset);
+    let erased = trial::run(packed, all, card, 0xFF, offset);
+    let guard = trial::run(
+        packed,
+        all,
+        card,
+        0,
+        trial::OPTIONS_AT + flash::option_of(page),
+    );
+    let last = trial::run(packed, trial::before(zero.changed), card, 0, offset);
+    let line = flash::doer(side, zero.changed, zero.earlier, last.device);
+    let cause = trial::run(packed, trial::before(line), card, 0, offset);
     let found = Found {
-        zero: byte_after(offset, packed, card, 0, memory),
-        erased: byte_after(offset, packed, card, 0xFF, memory),
+        offset,
+        side,
+        zero: zero.byte,
+        erased: erased.byte,
         want: wanted(offset, image),
+        is_locked: board::write_protected(board::word(card, 0), page),
+        line: guard.changed,
     };
-    flash::explain(offset, image.len(), found, packed, card, memory);
+    flash::explain(found, line, cause.device);
 }
 
-// A rejected job, packed. Every board that lives through it has the same room for its memory.
+// A rejected job, packed.
 fn rejected(verdict: Verdict, packed: &[u8], image: &[u8], card: &[u8]) {
-    let mut memory = [0u8; trial::MEMORY];
     match verdict {
-        Verdict::Event(number) => failed(number, packed, card, &mut memory),
-        Verdict::End(condition) => ended(condition, packed, card, &mut memory),
-        Verdict::Flash(offset) => differs(offset, packed, image, card, &mut memory),
+        Verdict::Event(line) => failed(line, packed, card),
+        Verdict::End(condition) => ended(condition, packed, card),
+        Verdict::Flash(offset) => differs(offset, packed, image, card),
         _ => {}
     }
 }
 
-// Packs the job for a board to live through it.
-fn replayed(verdict: Verdict, job: &[u8], image: &[u8], card: &[u8], room: &mut [u8]) {
-    let done = job::read(job, room);
-    match done {
-        Done::Refused(_) => {}
-        Done::Bytes(count) => {
-            if count <= room.len() {
-                rejected(verdict, &room[0..count], image, card);
-            }
-        }
+// Says a verdict that needs no board, and whether it is one.
+fn is_told(verdict: Verdict, image: usize, card: usize) -> bool {
+    match verdict {
+        Verdict::Pass => refused::passed(image),
+        Verdict::Refused(why) => refused::explain(why, image, card),
+        _ => false,
     }
 }
 
-// Says a verdict to people. `room` is the checker's work area, which it needs no more; a packed job has half the bytes
-// of its text at most, and so has room there.
+// Says a verdict to people. `room` is the checker's work area, which it needs no more: a packed job has half the bytes of
+// its text at most, and so has room there. Only boards that live through the job tell why it is rejected.
 pub(crate) fn explain(verdict: Verdict, job: &[u8], image: &[u8], card: &[u8], room: &mut [u8]) {
-    match verdict {
-        Verdict::Pass => passed(image.len()),
-        Verdict::Refused(why) => refused::explain(why, image.len(), card.len()),
-        _ => replayed(verdict, job, image, card, room),
+    if is_told(verdict, image.len(), card.len()) {
+        return;
     }
+    let done = job::read(job, room);
+    let count = say::least(say::size(done), room.len());
+    rejected(verdict, &room[0..count], image, card);
 }

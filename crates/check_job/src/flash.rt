@@ -2,171 +2,129 @@
 //
 // Two boards tell what the job does to a byte: one had flash all zero, one had it erased. Where they agree after the
 // job, the job set the byte; where they do not, it left it as it was.
+ghost use Prim.Native.Nat.{_≤_};
+use crate::deed;
 use crate::place;
 use crate::say;
-use crate::trace;
-use crate::trace::Trace;
-use crate::trial;
-use crate::trial::Watch;
 use board::Board;
+use device::Device;
 use device::Pending;
 
-// A byte of flash after the job: its value on either board, and the one that it has to have.
+// A byte of flash after the job: where it lies, as `side` says, its value on either board, the one that it has to have,
+// whether the card protects its page, and the last line that changed the option byte of its page.
 pub struct Found {
+    pub offset: usize,
+    pub side: usize,
     pub zero: u8,
     pub erased: u8,
     pub want: u8,
+    pub is_locked: bool,
+    pub line: usize,
 }
 
 // The option byte that holds a page's bit.
-fn option_of(page: usize) -> usize {
+pub(crate) fn option_of(page: usize) -> usize
+    ensures { λ r. ⌜ r ≤ 9 ⌝ }
+{
     8 + page / 8 % 2
 }
 
-// The story of this program: the loader answers OK and does nothing.
-fn locked(page: usize) {
-    say::text(b", but page ");
-    say::number(page);
-    say::text(b" is write-protected by the card (option byte ");
-    say::number(option_of(page));
-    say::text(b", bit ");
-    say::number(page % 8);
-    say::text(
-        b"): the loader answers OK to every erase and write there and leaves the page as it is, so the old code would stay. Lift the write protection of page ",
-    );
-    say::number(page);
-    say::text(b" on the board, then check again with the card that the board has then.");
+// Where an offset lies: 0 in an image of this size, 1 behind it in its last page, 2 in a page that it does not reach.
+pub(crate) fn side(offset: usize, size: usize) -> usize {
+    if offset < size {
+        return 0;
+    }
+    if size % Board::PAGE != 0 && offset / Board::PAGE == size / Board::PAGE {
+        return 1;
+    }
+    2
 }
 
-// The job leaves the byte as it was; `line` is the last that changes the page's option byte, or 0.
-fn untouched(offset: usize, line: usize) {
-    say::text(b", but the job leaves it as it was. ");
-    if line != 0 {
-        say::text(b"The job changes the write protection, last in line ");
-        say::number(line);
-        say::text(b": erase and write ");
-        place::page(offset);
-        say::text(b" while it is not write-protected.");
-        return;
+// The line that did something to a byte, of the last two that changed it: the last but, behind the image, where the last
+// one wrote, the one before, which erased. `last` is the device before the last one.
+pub(crate) fn doer(side: usize, changed: usize, earlier: usize, last: Device) -> usize {
+    let pending = last.pending;
+    if side < 2 {
+        return changed;
     }
-    say::text(b"Erase ");
-    place::page(offset);
-    say::text(b" in the job, then write the image's bytes to it.");
+    match pending {
+        Pending::Write { .. } => earlier,
+        _ => changed,
+    }
 }
 
-// The job erases the byte and does not write it.
-fn blank(found: Found) {
-    say::text(b", and no write of ");
-    say::byte(found.want);
-    say::text(
-        b" to it runs after that. Write the image's bytes behind that line, each write with the GETSTATUS that runs it, or take the image that the job was made for.",
-    );
+// Why the job leaves the byte as it was: the card protects its page, the job does not erase and write it, or it does so
+// only while it has protected the page.
+fn hold(is_locked: bool, line: usize) -> usize {
+    if is_locked {
+        return 0;
+    }
+    if line == 0 { 1 } else { 2 }
 }
 
-// The job sets the byte to something else, last by this line.
-fn wrong(found: Found, trace: Trace) {
-    trace::tell(b", but line ", trace);
-    if found.zero == 0xFF {
-        blank(found);
-        return;
-    }
-    say::text(b", which leaves ");
-    say::byte(found.zero);
-    say::text(b" there and not ");
-    say::byte(found.want);
-    say::text(
-        b". Correct the data or the address of the write, or take the image that the job was made for.",
-    );
-}
-
-// A byte in a page of the image.
-fn wanted(offset: usize, found: Found, packed: &[u8], card: &[u8], memory: &mut [u8]) {
-    let page = offset / Board::PAGE;
-    if found.zero == found.erased {
-        wrong(
-            found,
-            trace::last(packed, packed.len(), card, offset, memory),
-        );
-        return;
-    }
-    if board::write_protected(board::word(card, 0), page) {
-        locked(page);
-        return;
-    }
-    let place = trial::option_place(option_of(page));
-    untouched(
-        offset,
-        trace::line(packed, packed.len(), card, Watch::Byte(place), memory),
+fn stuck(found: Found) {
+    let page = found.offset / Board::PAGE;
+    say::fill(
+        b"[page # is write-protected by the card (option byte #, bit #): the loader answers OK to every erase and write there and leaves the page as it is, so the old code would stay. Lift the write protection of page # on the board, then check again with the card that the board has then.|the job leaves it as it was. Erase page # in the job, then write the image's bytes to it.|the job leaves it as it was. The job changes the write protection, last in line #: erase and write page # while it is not write-protected.]",
+        &[
+            hold(found.is_locked, found.line),
+            page,
+            option_of(page),
+            page % 8,
+            page,
+            page,
+            found.line,
+            page,
+        ],
     );
 }
 
 // What to do in place of what erases a page behind the image.
-fn spare(pending: Pending) {
+fn spare(pending: Pending) -> usize {
     match pending {
-        Pending::MassErase => say::text(
-            b". In place of the mass erase, erase the image's pages one by one, and write to no other.",
-        ),
-        Pending::ReadUnprotect => say::text(
-            b", which erases all flash of a read-protected board. Lift the read protection on the board first, then check a job with no read unprotect with the card that the board has then.",
-        ),
-        _ => say::text(b". Take that erase out of the job, and what it writes to this page."),
+        Pending::MassErase => 2,
+        Pending::ReadUnprotect => 3,
+        _ => 4,
     }
 }
 
-// What erased a byte, where this trace is of the last line that changed it: that line, or the last change before a write.
-fn eraser(trace: Trace, offset: usize, packed: &[u8], card: &[u8], memory: &mut [u8]) -> Trace {
-    let device = trace.device;
-    let pending = device.pending;
-    if trace.line == 0 {
-        return trace;
+// What to do about what the job did to the byte: write it, write it otherwise, or spare the page.
+fn advice(side: usize, zero: u8, pending: Pending) -> usize {
+    if side == 2 {
+        return spare(pending);
     }
-    match pending {
-        Pending::Write { .. } => trace::last(packed, trace.line - 1, card, offset, memory),
-        _ => trace,
-    }
+    if zero == 0xFF { 0 } else { 1 }
 }
 
-// A byte in a page that the image does not reach.
-fn foreign(offset: usize, packed: &[u8], card: &[u8], memory: &mut [u8]) {
-    let last = trace::last(packed, packed.len(), card, offset, memory);
-    let erased = eraser(last, offset, packed, card, memory);
-    let device = erased.device;
+// What a line did to the byte on this device.
+fn done(found: Found, line: usize, device: Device) {
     let pending = device.pending;
-    trace::tell(
-        b" lies behind the image's last page and has to stay as it is, but line ",
-        erased,
+    let advice = advice(found.side, found.zero, pending);
+    let want = found.want as usize;
+    deed::ran(1, line, device);
+    say::tell(
+        b"[, and no write of % to it runs after that. Write the image's bytes behind that line, each write with the GETSTATUS that runs it, or take the image that the job was made for.|, which leaves % there and not %. Correct the data or the address of the write, or take the image that the job was made for.|. In place of the mass erase, erase the image's pages one by one, and write to no other.|, which erases all flash of a read-protected board. Lift the read protection on the board first, then check a job with no read unprotect with the card that the board has then.|. Take that erase out of the job, and what it writes to this page.]",
+        advice,
+        want,
+        found.zero as usize,
+        want,
     );
-    spare(pending);
 }
 
-// Does an offset behind an image of this size lie in its last page?
-fn is_rest(offset: usize, size: usize) -> bool {
-    if size % Board::PAGE == 0 {
-        return false;
-    }
-    offset / Board::PAGE == size / Board::PAGE
-}
-
-// `size` is the image's.
-pub(crate) fn explain(
-    offset: usize,
-    size: usize,
-    found: Found,
-    packed: &[u8],
-    card: &[u8],
-    memory: &mut [u8],
-) {
+// The byte, and the line that did something to it, on this device.
+pub(crate) fn explain(found: Found, line: usize, device: Device) {
     say::text(b"The byte at ");
-    place::flash(offset);
-    if offset < size {
-        say::text(b" belongs to the image");
-        wanted(offset, found, packed, card, memory);
+    place::flash(found.offset);
+    say::tell(
+        b" [belongs to the image|lies behind the image in its last page and has to be erased|lies behind the image's last page and has to stay as it is], but ",
+        found.side,
+        0,
+        0,
+        0,
+    );
+    if found.side == 2 || found.zero == found.erased {
+        done(found, line, device);
         return;
     }
-    if is_rest(offset, size) {
-        say::text(b" lies behind the image in its last page and has to be erased");
-        wanted(offset, found, packed, card, memory);
-        return;
-    }
-    foreign(offset, packed, card, memory);
+    stuck(found);
 }

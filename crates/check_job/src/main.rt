@@ -1,22 +1,20 @@
 // Checks a job against an image and a card: one line on standard output says the verdict, and a sentence or two on
 // standard error say it to people, unless the call asks for the line alone.
-mod asked;
+mod deed;
 mod ends;
 mod event;
 mod explain;
-mod files;
 mod flash;
 mod form;
 mod place;
 mod refused;
 mod say;
-mod trace;
 mod trial;
 
 use board::Board;
 use files::Got;
+use libc::STDERR_FILENO;
 use libc::STDOUT_FILENO;
-use refusal::Done;
 use refusal::Refusal;
 use verdict::Verdict;
 
@@ -33,75 +31,129 @@ const WORK: usize = 2 * trial::MEMORY + trial::TRANSFER;
 // A line has a word, a digit or two, and a number.
 const LINE_ROOM: usize = 64;
 
-fn write_front(line: &[u8], count: usize) {
-    if count <= line.len() {
-        io::write_all(STDOUT_FILENO, &line[0..count]);
-    }
-}
+// The arguments of a call that names all three files: the program's own name is the first. With a word behind them
+// there is one more, at this place.
+const NAMED: usize = 4;
+
+// The bytes of the word.
+const WORD: usize = 5;
 
 // Prints the verdict's line.
 fn print(verdict: Verdict) {
     let mut line = [0u8; LINE_ROOM];
     let done = verdict::report(verdict, &mut line);
-    match done {
-        Done::Bytes(count) => write_front(&line, count),
-        Done::Refused(_) => {}
-    }
+    say::front(STDOUT_FILENO, &line, say::size(done));
 }
 
-fn judge(job: &[u8], image: &[u8], card: &[u8]) {
+// The first file that was not read: the argument that names it, or 0 where all were, and how it came out.
+struct Missed {
+    argument: usize,
+    got: Got,
+}
+
+// The file that this argument names came out so.
+fn note(missed: Missed, argument: usize, got: Got) -> Missed {
+    if missed.argument != 0 {
+        return missed;
+    }
+    if got.is_read {
+        return missed;
+    }
+    Missed { argument, got }
+}
+
+// What to say of a file that could not be read.
+fn tell(got: Got, argument: usize, file: &[u8]) {
+    let mut room = [0u8; say::ROOM];
+    let count = files::unreadable(got, argument, file, &mut room);
+    say::front(STDERR_FILENO, &room, count);
+}
+
+// Refuses for that file.
+fn refuse(missed: Missed) {
+    let argument = missed.argument;
+    let got = missed.got;
+    match argument {
+        1 => tell(got, argument, b"job|job.txt|job, image and card"),
+        2 => tell(got, argument, b"image|image.bin|job, image and card"),
+        _ => tell(got, argument, b"card|card.bin|job, image and card"),
+    }
+    say::text(b"\n");
+}
+
+fn judge(job: &[u8], image: &[u8], card: &[u8], is_quiet: bool) {
     let mut work = [0u8; WORK];
     let verdict = checker::check(job, image, card, &mut work);
     print(verdict);
-    if files::is_quiet() {
+    if is_quiet {
         return;
     }
     explain::explain(verdict, job, image, card, &mut work);
     say::text(b"\n");
 }
 
-fn refuse(file: usize, error: i32) {
+// Judges the job where all files were read, or refuses.
+fn answer(job: &[u8], image: &[u8], card: &[u8], missed: Missed, is_quiet: bool) {
+    if missed.argument == 0 {
+        judge(job, image, card, is_quiet);
+        return;
+    }
     print(Verdict::Refused(Refusal::File));
-    if files::is_quiet() {
-        return;
+    if !is_quiet {
+        refuse(missed);
     }
-    refused::unreadable(file, error);
-    say::text(b"\n");
 }
 
-// Refuses for the first of the three files that was not read.
-fn refuse_first(job: Got, image: Got, card: Got) {
-    if !job.is_read {
-        refuse(files::JOB, job.error);
-        return;
-    }
-    if !image.is_read {
-        refuse(files::IMAGE, image.error);
-        return;
-    }
-    refuse(files::CARD, card.error);
-}
-
-fn check() {
-    let mut job = [0u8; JOB_ROOM];
-    let mut image = [0u8; IMAGE_ROOM];
+// Reads the card.
+fn suit(job: &[u8], image: &[u8], missed: Missed, is_quiet: bool) {
     let mut card = [0u8; CARD_ROOM];
-    let text = files::read(files::JOB, &mut job);
-    let bytes = files::read(files::IMAGE, &mut image);
-    let options = files::read(files::CARD, &mut card);
-    if !(text.is_read && bytes.is_read && options.is_read) {
-        refuse_first(text, bytes, options);
-        return;
+    let got = files::read(3, b"card|card.bin", &mut card);
+    let count = got.count;
+    answer(job, image, &card[0..count], note(missed, 3, got), is_quiet);
+}
+
+// Reads the image.
+fn hold(job: &[u8], missed: Missed, is_quiet: bool) {
+    let mut image = [0u8; IMAGE_ROOM];
+    let got = files::read(2, b"image|image.bin", &mut image);
+    let count = got.count;
+    suit(job, &image[0..count], note(missed, 2, got), is_quiet);
+}
+
+// Reads the job.
+fn check(is_quiet: bool) {
+    let mut job = [0u8; JOB_ROOM];
+    let got = files::read(1, b"job|job.txt", &mut job);
+    let count = got.count;
+    hold(
+        &job[0..count],
+        note(Missed { argument: 0, got }, 1, got),
+        is_quiet,
+    );
+}
+
+// Is there one word behind the names, and is it `quiet`? A longer word has no room, and counts as one of no bytes.
+fn is_quiet(count: usize) -> bool {
+    let mut word = [0u8; WORD];
+    let length = os::arg(NAMED, &mut word);
+    count == NAMED + 1 && length == WORD && buffer::same_bytes(&word, b"quiet")
+}
+
+// How the program is called: 0 for three files or none, 1 for three files and the word, 2 for anything else.
+fn manner(count: usize) -> usize {
+    if count < 2 {
+        return 0;
     }
-    let j = text.count;
-    let i = bytes.count;
-    let c = options.count;
-    judge(&job[0..j], &image[0..i], &card[0..c]);
+    if count == NAMED {
+        return 0;
+    }
+    if is_quiet(count) { 1 } else { 2 }
 }
 
 fn main() {
-    if files::are_named_well() {
-        check();
+    let manner = manner(os::arg_count());
+    if manner < 2 {
+        check(manner == 1);
         return;
     }
     print(Verdict::Refused(Refusal::File));

@@ -1,62 +1,58 @@
 // Words for people, on standard error.
+ghost use Prim.Native.Nat.{_≤_};
 use libc::STDERR_FILENO;
 use mode::Mode;
+use refusal::Done;
 use request::Request;
 
-// Room for the longest name or number.
-const ROOM: usize = 64;
+// Room for the longest sentence.
+pub const ROOM: usize = 512;
+
+// Room for the longest name.
+const NAME: usize = 64;
+
+// How many bytes there are, none where the call refused.
+pub(crate) fn size(done: Done) -> usize {
+    match done {
+        Done::Bytes(count) => count,
+        Done::Refused(_) => 0,
+    }
+}
+
+pub(crate) fn least(a: usize, b: usize) -> usize
+    ensures { λ r. ⌜ (r ≤ a) × (r ≤ b) ⌝ }
+{
+    if a < b { a } else { b }
+}
+
+pub(crate) fn front(fd: i32, words: &[u8], count: usize) {
+    io::write_all(fd, &words[0..least(count, words.len())]);
+}
 
 pub(crate) fn text(text: &[u8]) {
     io::write_all(STDERR_FILENO, text);
 }
 
-fn front(words: &[u8], count: usize) {
-    if count <= words.len() {
-        text(&words[0..count]);
-    }
+// A sentence, as the crate `sentence` reads a template.
+pub(crate) fn fill(template: &[u8], numbers: &[usize]) {
+    let mut room = [0u8; ROOM];
+    let count = sentence::fill(template, numbers, b"", &mut room, 0);
+    front(STDERR_FILENO, &room, count);
+}
+
+// One with up to four numbers.
+pub(crate) fn tell(template: &[u8], a: usize, b: usize, c: usize, d: usize) {
+    fill(template, &[a, b, c, d]);
 }
 
 pub(crate) fn request(request: Request) {
-    let mut room = [0u8; ROOM];
+    let mut room = [0u8; NAME];
     let count = words::request(request, &mut room, 0);
-    front(&room, count);
+    front(STDERR_FILENO, &room, count);
 }
 
 pub(crate) fn mode(mode: Mode) {
-    let mut room = [0u8; ROOM];
+    let mut room = [0u8; NAME];
     let count = words::mode(mode, &mut room, 0);
-    front(&room, count);
-}
-
-pub(crate) fn status(status: u8) {
-    let mut room = [0u8; ROOM];
-    let count = words::status(status, &mut room, 0);
-    front(&room, count);
-}
-
-pub(crate) fn number(number: usize) {
-    let mut room = [0u8; ROOM];
-    let count = words::decimal(number, &mut room, 0);
-    front(&room, count);
-}
-
-pub(crate) fn address(address: u32) {
-    let mut room = [0u8; ROOM];
-    let count = words::address(address, &mut room, 0);
-    front(&room, count);
-}
-
-// A byte's two digits.
-pub(crate) fn byte(byte: u8) {
-    text(&[hex::digit(byte / 16), hex::digit(byte)]);
-}
-
-// So many bytes.
-pub(crate) fn bytes(count: usize) {
-    number(count);
-    if count == 1 {
-        text(b" byte");
-        return;
-    }
-    text(b" bytes");
+    front(STDERR_FILENO, &room, count);
 }

@@ -1,40 +1,51 @@
 // A single board that lives through a job.
 //
 // Where an event fails on some board, it fails on the one whose flash and RAM are all zero, and no event before it
-// does: this is the board by which the checker's proof shows that a rejected job is rightly rejected.
+// does: this is the board by which the checker's proof shows that a rejected job is rightly rejected. Whatever a job does
+// to a byte of flash changes it there, for it erases it first.
 use board::Board;
 use device::Device;
-use loader::Event;
+use device::Pending;
 use mode::Mode;
 use request::Setup;
 
 pub const FLASH: usize = Board::LOGGER.pages as usize * Board::PAGE;
 
-const OPTIONS_AT: usize = FLASH + Board::RAM_BYTES;
+pub const OPTIONS_AT: usize = FLASH + Board::RAM_BYTES;
 
 pub const MEMORY: usize = OPTIONS_AT + OPTIONS;
 
-const OPTIONS: usize = Board::OPTION_BYTES;
+pub const OPTIONS: usize = Board::OPTION_BYTES;
 
 pub const TRANSFER: usize = Setup::TRANSFER as usize;
 
-// The bytes of a packed request before its data: its kind byte and the setup.
-const HEAD: usize = 9;
-
-// What is watched while a job is played: the pointer, whether the loader leaves or has left, or a byte of the memory.
-pub enum Watch {
-    Pointer,
-    Leaving,
-    Byte(usize),
-}
-
-// The device after some events, how many they are, and the place of the next one in the packed job; `changed` is the
-// number of the last event that changed what was watched, or 0. An event's number is the number of its line.
+// The board after `count` events, the next of which is at place `at` of the packed job. An event's number is the number
+// of its line, and 0 stands for no line.
+//
+// `byte` is the byte that is watched; the last line that changed it, and the one before that which did; the last line
+// that moved the pointer, and the last by which the loader leaves, or stays after all. Then, of the memory: is it
+// read-protected, where is the first byte in the way of the write that waits, and which is the first option byte that is
+// not the card's?
 pub struct Scene {
     pub device: Device,
     pub count: usize,
     pub at: usize,
+    pub byte: u8,
     pub changed: usize,
+    pub earlier: usize,
+    pub pointed: usize,
+    pub left: usize,
+    pub is_protected: bool,
+    pub dirt: usize,
+    pub altered: usize,
+}
+
+// How many events come before the one in this line.
+pub(crate) fn before(line: usize) -> usize {
+    if line == 0 {
+        return 0;
+    }
+    line - 1
 }
 
 // A board whose flash and RAM are all `old`, with the options of the card.
@@ -49,60 +60,7 @@ fn equip(memory: &mut [u8], old: u8, card: &[u8]) {
     buffer::put(memory, OPTIONS_AT, card);
 }
 
-// The place behind the event that begins at place `at`.
-fn end_of(packed: &[u8], at: usize) -> usize {
-    if packed.len() <= at {
-        return at;
-    }
-    if packed[at] == 0 {
-        return at + 1;
-    }
-    let rest = packed.len() - at;
-    if rest < HEAD {
-        return packed.len();
-    }
-    let count = Setup::of(&packed[at + 1..]).data_length();
-    if rest - HEAD < count {
-        return packed.len();
-    }
-    at + HEAD + count
-}
-
-// The device after the event from place `at` up to place `end`.
-fn play(
-    device: Device,
-    packed: &[u8],
-    at: usize,
-    end: usize,
-    memory: &mut [u8],
-    block: &mut [u8],
-    reply: &mut [u8],
-) -> Device {
-    if packed.len() < end {
-        return device;
-    }
-    if end <= at {
-        return device;
-    }
-    if packed[at] == 0 {
-        return device.attach();
-    }
-    let request = &packed[at + 1..end];
-    let stepped = loader::step(device, Event::Request, request, memory, block, reply);
-    stepped.device
-}
-
-// What is watched, as a number.
-fn sight(watch: Watch, device: Device, memory: &[u8]) -> u32 {
-    let mode = device.mode;
-    match watch {
-        Watch::Pointer => device.pointer,
-        Watch::Leaving => leaving(mode),
-        Watch::Byte(place) => buffer::byte_at(memory, place) as u32,
-    }
-}
-
-fn leaving(mode: Mode) -> u32 {
+fn leaving(mode: Mode) -> usize {
     match mode {
         Mode::ManifestSync => 1,
         Mode::Left => 1,
@@ -110,60 +68,70 @@ fn leaving(mode: Mode) -> u32 {
     }
 }
 
-// The number of the event, where it changed what is watched; else the number of the last one that did.
-fn latest(changed: usize, number: usize, before: u32, after: u32) -> usize {
-    if before == after {
-        return changed;
-    }
-    number
+fn latest(is_same: bool, last: usize, line: usize) -> usize {
+    if is_same { last } else { line }
 }
 
-// The first `events` events of a job, or all where there are not so many, on the board with this memory.
-fn live(packed: &[u8], events: usize, memory: &mut [u8], watch: Watch) -> Scene {
-    let mut block = [0u8; TRANSFER];
-    let mut reply = [0u8; TRANSFER];
-    let mut device = Device::START;
-    let mut at = 0;
-    let mut count = 0;
-    let mut changed = 0;
-    let mut seen = sight(watch, device, memory);
-    while count < events && at < packed.len() {
-        let end = end_of(packed, at);
-        device = play(device, packed, at, end, memory, &mut block, &mut reply);
-        at = end;
-        count += 1;
-        let now = sight(watch, device, memory);
-        changed = latest(changed, count, seen, now);
-        seen = now;
+// Nothing has happened yet.
+fn first(byte: u8) -> Scene {
+    Scene {
+        device: Device::START,
+        count: 0,
+        at: 0,
+        byte,
+        changed: 0,
+        earlier: 0,
+        pointed: 0,
+        left: 0,
+        is_protected: false,
+        dirt: 0,
+        altered: 0,
     }
+}
+
+// The event in this line leaves the device and the byte so.
+fn next(scene: Scene, line: usize, device: Device, byte: u8) -> Scene {
+    let before = scene.device;
+    let was = before.mode;
+    let is = device.mode;
+    let stays = byte == scene.byte;
     Scene {
         device,
-        count,
-        at,
-        changed,
+        byte,
+        changed: latest(stays, scene.changed, line),
+        earlier: latest(stays, scene.earlier, scene.changed),
+        pointed: latest(before.pointer == device.pointer, scene.pointed, line),
+        left: latest(leaving(was) == leaving(is), scene.left, line),
+        ..scene
     }
 }
 
-// The same, on a board with this card, whose flash and RAM were all zero.
-pub(crate) fn run(
-    packed: &[u8],
-    events: usize,
-    card: &[u8],
-    memory: &mut [u8],
-    watch: Watch,
-) -> Scene {
-    equip(memory, 0, card);
-    live(packed, events, memory, watch)
-}
-
-// The memory after the whole job, on a board whose flash and RAM were all `old`.
-pub(crate) fn outlive(packed: &[u8], card: &[u8], old: u8, memory: &mut [u8]) {
-    equip(memory, old, card);
-    live(packed, packed.len(), memory, Watch::Pointer);
+// The first `events` events of a job, or all where there are not so many, on the board with this memory. The byte at
+// `place` is watched.
+fn live(packed: &[u8], events: usize, place: usize, memory: &mut [u8]) -> Scene {
+    let mut block = [0u8; TRANSFER];
+    let mut reply = [0u8; TRANSFER];
+    let mut scene = first(buffer::byte_at(memory, place));
+    let mut at = 0;
+    let mut count = 0;
+    while count < events && at < packed.len() {
+        let end = at + job::piece_length(&packed[at..]);
+        let stepped = player::step(
+            scene.device,
+            &packed[at..end],
+            memory,
+            &mut block,
+            &mut reply,
+        );
+        at = end;
+        count += 1;
+        scene = next(scene, count, stepped.device, buffer::byte_at(memory, place));
+    }
+    Scene { count, at, ..scene }
 }
 
 // The first place from `from` on whose byte is not erased, outside write-protected pages.
-pub(crate) fn first_written(memory: &[u8], from: usize) -> usize {
+fn first_written(memory: &[u8], from: usize) -> usize {
     let word = Board::LOGGER.protection_word(memory);
     let mut i = from;
     while i < memory.len() {
@@ -175,27 +143,43 @@ pub(crate) fn first_written(memory: &[u8], from: usize) -> usize {
     i
 }
 
-// The place of an option byte in the memory, or the memory's end where there is none.
-pub(crate) fn option_place(i: usize) -> usize {
-    if OPTIONS <= i {
-        return MEMORY;
-    }
-    OPTIONS_AT + i
-}
-
-// An option byte.
-pub(crate) fn option(memory: &[u8], i: usize) -> u8 {
-    buffer::byte_at(memory, option_place(i))
-}
-
 // The first option byte in which board and card differ, or 16.
-pub(crate) fn first_changed(memory: &[u8], card: &[u8]) -> usize {
+fn first_changed(memory: &[u8], card: &[u8]) -> usize {
     let mut i = 0;
     while i < OPTIONS {
-        if option(memory, i) != buffer::byte_at(card, i) {
+        if buffer::byte_at(memory, OPTIONS_AT + i) != buffer::byte_at(card, i) {
             return i;
         }
         i += 1;
     }
     i
+}
+
+// The place in flash where the write that waits begins, if it is one into flash.
+fn target(pointer: u32, pending: Pending) -> usize {
+    match pending {
+        Pending::Write { block, count } => (action::block_address(block, count, pointer)
+            % Board::FLASH as u64) as usize,
+        _ => 0,
+    }
+}
+
+// What the memory is like then.
+fn survey(scene: Scene, memory: &[u8], card: &[u8]) -> Scene {
+    let device = scene.device;
+    let pending = device.pending;
+    Scene {
+        is_protected: Board::LOGGER.read_protected(memory),
+        dirt: first_written(memory, target(device.pointer, pending)),
+        altered: first_changed(memory, card),
+        ..scene
+    }
+}
+
+// The first `events` events of a job on a board with this card, whose flash and RAM were all `old`.
+pub(crate) fn run(packed: &[u8], events: usize, card: &[u8], old: u8, place: usize) -> Scene {
+    let mut memory = [0u8; MEMORY];
+    equip(&mut memory, old, card);
+    let scene = live(packed, events, place, &mut memory);
+    survey(scene, &memory, card)
 }

@@ -1,4 +1,4 @@
--- `check_job::trial::first_changed` is safe and ends. Assumes nothing.
+-- `check_job::trial::first_changed` meets its contract. Assumes nothing.
 use borrow.Author.Needs.{needs}
 use Prim.Native.Nat.{_-_, _≤_}
 use Rattle.check_job.proofs.trial.first_changed.Statement.{statement}
@@ -13,11 +13,14 @@ abbrev μ-loop : tie.MeasureT-loop
 loop-holds : tie.Need-loop-holds Inv-loop μ-loop
 loop-holds c = search needs
 
-option-requires : tie.Need-option-requires Inv-loop μ-loop
-option-requires c κs = search needs
+add-byte-at : tie.Need-add-byte-at Inv-loop μ-loop
+add-byte-at c = search needs
 
 byte-at-requires : tie.Need-byte-at-requires Inv-loop μ-loop
 byte-at-requires c κs = search needs
+
+byte-at-requires-2 : tie.Need-byte-at-requires-2 Inv-loop μ-loop
+byte-at-requires-2 c κs = search needs
 
 returns : tie.Need-returns Inv-loop μ-loop
 returns c = search needs
@@ -41,8 +44,9 @@ first-changed-spec =
     Inv-loop
     μ-loop
     loop-holds
-    option-requires
+    add-byte-at
     byte-at-requires
+    byte-at-requires-2
     returns
     add-i
     loop-less
