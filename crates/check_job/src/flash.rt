@@ -79,21 +79,16 @@ fn stuck(found: Found) {
     );
 }
 
-// What to do in place of what erases a page behind the image.
-fn spare(pending: Pending) -> usize {
+// What to do about what the job did to the byte: write it, write it otherwise, or spare a page behind the image.
+fn advice(side: usize, zero: u8, pending: Pending) -> usize {
+    if side < 2 {
+        return if zero == 0xFF { 0 } else { 1 };
+    }
     match pending {
         Pending::MassErase => 2,
         Pending::ReadUnprotect => 3,
         _ => 4,
     }
-}
-
-// What to do about what the job did to the byte: write it, write it otherwise, or spare the page.
-fn advice(side: usize, zero: u8, pending: Pending) -> usize {
-    if side == 2 {
-        return spare(pending);
-    }
-    if zero == 0xFF { 0 } else { 1 }
 }
 
 // What a line did to the byte on this device.

@@ -3,9 +3,6 @@ use crate::say;
 use request::Request;
 use request::Setup;
 
-// The number of a request that the loader does not know.
-const UNKNOWN: usize = 6;
-
 // The request that type and code name, whatever the fields are.
 pub(crate) fn named(setup: Setup) -> Request {
     let key = setup.kind as u32 * 256 + setup.code as u32;
@@ -20,30 +17,26 @@ pub(crate) fn named(setup: Setup) -> Request {
     }
 }
 
-// A request, as the sentence counts it.
-fn number(request: Request) -> usize {
+// A setup's code where type and code name a request, else 0: so the sentences count requests.
+fn number(setup: Setup) -> usize {
+    let request = named(setup);
     match request {
-        Request::Download => 0,
-        Request::Upload => 1,
-        Request::GetStatus => 2,
-        Request::ClearStatus => 3,
-        Request::GetState => 4,
-        Request::Abort => 5,
-        Request::Unknown => UNKNOWN,
+        Request::Unknown => 0,
+        _ => setup.code as usize,
     }
 }
 
 // A setup that is none of the loader's requests, behind the name that its type and code have.
 pub(crate) fn describe(setup: Setup) {
     say::fill(
-        b"[ with wValue #, wIndex # and wLength #| (type 0x%, code #)]",
+        b"[ (type 0x%, code #)| with wValue #, wIndex # and wLength #]",
         &[
-            number(named(setup)) / UNKNOWN,
+            number(setup),
+            setup.kind as usize,
+            setup.code as usize,
             setup.value as usize,
             setup.index as usize,
             setup.length as usize,
-            setup.kind as usize,
-            setup.code as usize,
         ],
     );
 }
@@ -51,24 +44,24 @@ pub(crate) fn describe(setup: Setup) {
 // What to do about fields that are not as they have to be: correct them, or write or read in more blocks. Only blocks
 // can be too long.
 fn mend(request: usize, length: u16) -> usize {
-    if request == UNKNOWN {
+    if request == 0 {
         return 0;
     }
     if length <= Setup::TRANSFER {
         return 1;
     }
     match request {
-        0 => 2,
-        1 => 3,
+        1 => 2,
+        2 => 3,
         _ => 1,
     }
 }
 
 // What the fields have to be.
 pub(crate) fn correct(setup: Setup) {
-    let request = number(named(setup));
+    let request = number(setup);
     say::fill(
-        b"The loader stalls it, for [a DNLOAD has wIndex 0 and wLength 0 to 2048.|an UPLOAD has wIndex 0 and wLength 1 to 2048.|a GETSTATUS has wValue 0, wIndex 0 and wLength 6.|a CLRSTATUS has wValue 0, wIndex 0 and wLength 0.|a GETSTATE has wValue 0, wIndex 0 and wLength 1.|an ABORT has wValue 0, wIndex 0 and wLength 0.|only DNLOAD, UPLOAD, GETSTATUS, CLRSTATUS, GETSTATE and ABORT are known to it. Correct type and code, or take the line out.][| Correct the setup.| Write the bytes in two or more blocks.| Read the bytes in two or more blocks.]",
+        b"The loader stalls it, for [only DNLOAD, UPLOAD, GETSTATUS, CLRSTATUS, GETSTATE and ABORT are known to it. Correct type and code, or take the line out.|a DNLOAD has wIndex 0 and wLength 0 to 2048.|an UPLOAD has wIndex 0 and wLength 1 to 2048.|a GETSTATUS has wValue 0, wIndex 0 and wLength 6.|a CLRSTATUS has wValue 0, wIndex 0 and wLength 0.|a GETSTATE has wValue 0, wIndex 0 and wLength 1.|an ABORT has wValue 0, wIndex 0 and wLength 0.][| Correct the setup.| Write the bytes in two or more blocks.| Read the bytes in two or more blocks.]",
         &[request, mend(request, setup.length)],
     );
 }

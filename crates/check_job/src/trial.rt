@@ -3,6 +3,7 @@
 // Where an event fails on some board, it fails on the one whose flash and RAM are all zero, and no event before it
 // does: this is the board by which the checker's proof shows that a rejected job is rightly rejected. Whatever a job does
 // to a byte of flash changes it there, for it erases it first.
+use crate::say;
 use board::Board;
 use device::Device;
 use device::Pending;
@@ -89,14 +90,16 @@ fn first(byte: u8) -> Scene {
     }
 }
 
-// The event in this line leaves the device and the byte so.
-fn next(scene: Scene, line: usize, device: Device, byte: u8) -> Scene {
+// The event in this line, up to place `at` of the job, leaves the device and the byte so.
+fn next(scene: Scene, line: usize, at: usize, device: Device, byte: u8) -> Scene {
     let before = scene.device;
     let was = before.mode;
     let is = device.mode;
     let stays = byte == scene.byte;
     Scene {
         device,
+        count: line,
+        at,
         byte,
         changed: latest(stays, scene.changed, line),
         earlier: latest(stays, scene.earlier, scene.changed),
@@ -106,28 +109,39 @@ fn next(scene: Scene, line: usize, device: Device, byte: u8) -> Scene {
     }
 }
 
-// The first `events` events of a job, or all where there are not so many, on the board with this memory. The byte at
-// `place` is watched.
+// The event in this line happens; the byte at `place` is watched.
+fn turn(
+    scene: Scene,
+    line: usize,
+    packed: &[u8],
+    place: usize,
+    memory: &mut [u8],
+    block: &mut [u8],
+    reply: &mut [u8],
+) -> Scene {
+    let at = say::least(scene.at, packed.len());
+    let end = at + job::piece_length(&packed[at..]);
+    let stepped = player::step(scene.device, &packed[at..end], memory, block, reply);
+    next(
+        scene,
+        line,
+        end,
+        stepped.device,
+        buffer::byte_at(memory, place),
+    )
+}
+
+// The first `events` events of a job, or all where there are not so many, on the board with this memory.
 fn live(packed: &[u8], events: usize, place: usize, memory: &mut [u8]) -> Scene {
     let mut block = [0u8; TRANSFER];
     let mut reply = [0u8; TRANSFER];
     let mut scene = first(buffer::byte_at(memory, place));
-    let mut at = 0;
     let mut count = 0;
-    while count < events && at < packed.len() {
-        let end = at + job::piece_length(&packed[at..]);
-        let stepped = player::step(
-            scene.device,
-            &packed[at..end],
-            memory,
-            &mut block,
-            &mut reply,
-        );
-        at = end;
+    while count < events && scene.at < packed.len() {
         count += 1;
-        scene = next(scene, count, stepped.device, buffer::byte_at(memory, place));
+        scene = turn(scene, count, packed, place, memory, &mut block, &mut reply);
     }
-    Scene { count, at, ..scene }
+    scene
 }
 
 // The first place from `from` on whose byte is not erased, outside write-protected pages.
