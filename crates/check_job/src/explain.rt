@@ -91,8 +91,8 @@ fn is_told(verdict: Verdict, image: usize, card: usize) -> bool {
     }
 }
 
-// Says a verdict to people. `room` is the checker's work area, which it needs no more: a packed job has half the bytes of
-// its text at most, and so has room there. Only boards that live through the job tell why it is rejected.
+// Says a verdict to people. `room` is the checker's work area, which it needs no more: a packed job has half the bytes
+// of its text at most, and so has room there. Only boards that live through the job tell why it is rejected.
 pub(crate) fn explain(verdict: Verdict, job: &[u8], image: &[u8], card: &[u8], room: &mut [u8]) {
     if is_told(verdict, image.len(), card.len()) {
         return;

@@ -40,8 +40,8 @@ pub(crate) fn side(offset: usize, size: usize) -> usize {
     2
 }
 
-// The line that did something to a byte, of the last two that changed it: the last but, behind the image, where the last
-// one wrote, the one before, which erased. `last` is the device before the last one.
+// Of the last two lines that changed a byte, the one that is at fault: the last or, behind the image, where that one
+// wrote, the one before it, which erased. `last` is the device before the last one.
 pub(crate) fn doer(side: usize, changed: usize, earlier: usize, last: Device) -> usize {
     let pending = last.pending;
     if side < 2 {

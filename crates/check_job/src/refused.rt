@@ -31,8 +31,8 @@ fn plural(card: usize) -> usize {
     if card == 1 { 2 } else { 3 }
 }
 
-// A refusal of the checker; the sentence picks by its number. The ones left out are not its own, or are about a work area
-// of another size than ours.
+// A refusal of the checker; the sentence picks by its number. The ones left out are not its own, or are about a work
+// area of another size than ours.
 pub(crate) fn explain(why: Refusal, image: usize, card: usize) -> bool {
     let number = why.number() as usize;
     say::fill(

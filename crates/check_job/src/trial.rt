@@ -1,8 +1,8 @@
 // A single board that lives through a job.
 //
 // Where an event fails on some board, it fails on the one whose flash and RAM are all zero, and no event before it
-// does: this is the board by which the checker's proof shows that a rejected job is rightly rejected. Whatever a job does
-// to a byte of flash changes it there, for it erases it first.
+// does: this is the board by which the checker's proof shows that a rejected job is rightly rejected. Whatever a job
+// does to a byte of flash changes it there, for it erases it first.
 use crate::say;
 use board::Board;
 use device::Device;
@@ -25,8 +25,8 @@ pub const TRANSFER: usize = Setup::TRANSFER as usize;
 //
 // `byte` is the byte that is watched; the last line that changed it, and the one before that which did; the last line
 // that moved the pointer, and the last by which the loader leaves, or stays after all. Then, of the memory: is it
-// read-protected, where is the first byte in the way of the write that waits, and which is the first option byte that is
-// not the card's?
+// read-protected, where is the first byte in the way of the write that waits, and which is the first option byte that
+// is not the card's?
 pub struct Scene {
     pub device: Device,
     pub count: usize,

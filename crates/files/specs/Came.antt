@@ -6,7 +6,7 @@ use Prim.Native.Nat.{ℕ, _≤_}
 use lib.ListN.{length}
 use Rattle.files.specs.declared.Got.{Got}
 
--- no more bytes count than there is room for, and none of a file that is not read; one that is not opened leaves the buffer as it was
+-- no more bytes count than there is room for, none of a file that is not read; one not opened leaves the buffer alone
 pub record Came (got : Got) (before after : List ℕ) : Type 0 where
   pub fits : got .count ≤ length after
   pub unread : got .«is_read» ≡ false → got .count ≡ 0

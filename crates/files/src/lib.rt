@@ -2,7 +2,8 @@
 //
 // A program tells of a file which argument names it and, in one text with bars, what it is, what it is called in the
 // current folder, where it is found when there is no such argument, and all that the program takes: `job|job.txt|job
-// and board`. No contract can say what the system reads: that the bytes which came are those of the file is seen by running.
+// and board`. No contract can say what the system reads: that the bytes which came are those of the file is seen by
+// running.
 ghost use mathlib.Core.Path.{_≡_};
 ghost use mathlib.Core.Bool.{true, false, cond};
 ghost use mathlib.Core.List.{[], _∷_};
