@@ -1,0 +1,84 @@
+-- What the programs that play vectors make of numbers and buffers: no rule of the paper. Assumes nothing.
+use mathlib.Core.Path.{_≡_}
+use mathlib.Core.Bool.{Bool, cond, _&&_}
+use mathlib.Core.List.{List, [], _∷_}
+use Prim.Native.Nat.{ℕ, zero, suc, _+_, _-_, _*_, _%_, _≤_}
+use lib.Dec.{eqb, leb, ltb}
+use lib.ListN.{length, take, drop, getD, set}
+use Rattle.laws.specs.Bytes.{put}
+use Rattle.refusal.specs.declared.Done.{Done}
+use Rattle.refusal.specs.declared.Done.the-variants.{Bytes, Refused}
+use Rattle.refusal.specs.Refusal.{numberOf, lineNamed}
+use Rattle.vectors.specs.declared.Answer.{Answer}
+
+-- two bytes as a number, low byte first
+abbrev pub halfOf : List ℕ → ℕ → ℕ
+halfOf bs at = getD bs at 0 + getD bs (at + 1) 0 * 0x100
+
+-- four bytes, likewise
+abbrev pub wordOf : List ℕ → ℕ → ℕ
+wordOf bs at = getD bs at 0 + getD bs (at + 1) 0 * 0x100 + getD bs (at + 2) 0 * 0x1_0000 + getD bs (at + 3) 0 * 0x100_0000
+
+-- how much of a buffer is lent: its right length, a byte less, a byte more, or nothing
+abbrev pub lentOf : ℕ → ℕ → ℕ
+lentOf code right = cond (eqb code 0) right (cond (eqb code 1) (right - 1) (cond (eqb code 2) (right + 1) 0))
+
+-- an answer in numbers: the refusal and the line that it names, or 0, and the bytes put out
+abbrev pub toldOf : Done → Answer
+toldOf (Bytes n) = record { number = 0; line = 0; count = n }
+toldOf (Refused r) = record { number = numberOf r; line = lineNamed r; count = 0 }
+
+-- the smaller of two
+abbrev pub leastOf : ℕ → ℕ → ℕ
+leastOf a b = cond (ltb a b) a b
+
+-- so many bytes, each by the step more than the one before, modulo 256
+unfoldable pub rampOf : ℕ → ℕ → ℕ → List ℕ
+rampOf zero seed step = []
+rampOf (suc n) seed step = seed ∷ rampOf n ((seed + step) % 0x100) step
+
+-- they go over the bytes from place `at` on, as far as there are any
+unfoldable pub rampedOf : ℕ → ℕ → ℕ → ℕ → List ℕ → List ℕ
+rampedOf at count seed step out = put at (rampOf (leastOf count (length out - at)) seed step) out
+
+-- is there room for `count` bytes from place `at` on
+unfoldable pub fitsOf : ℕ → ℕ → ℕ → Bool
+fitsOf size at count = leb (at + count) size
+
+-- what a call leaves: the place behind its bytes, and the buffer
+pub record Laid : Type 0 where
+  pub place : ℕ
+  pub out : List ℕ
+
+-- the two in one
+abbrev pub left : ℕ → List ℕ → Laid
+left place out = record { place = place; out = out }
+
+-- n bytes from the i-th behind place `at` on become, one by one, those of the period at place `from`, over and over
+unfoldable pub againOf : ℕ → ℕ → ℕ → ℕ → ℕ → List ℕ → List ℕ
+againOf zero i from period at m = m
+againOf (suc n) i from period at m = againOf n (suc i) from period at (set m (at + i) (getD m (from + i % period) 0))
+
+-- there is a period, and room for it and for the bytes
+unfoldable pub repeatsOf : ℕ → ℕ → ℕ → ℕ → ℕ → Bool
+repeatsOf size from period at count = ltb 0 period && (fitsOf size from period && fitsOf size at count)
+
+-- so many bytes of it, or nothing at all
+unfoldable pub repeatedOf : ℕ → ℕ → ℕ → ℕ → List ℕ → Laid
+repeatedOf from period at count m = cond (repeatsOf (length m) from period at count) (left (at + count) (againOf count 0 from period at m)) (left at m)
+
+-- a digest with one more number in it
+abbrev pub mixOf : ℕ → ℕ → ℕ
+mixOf digest n = (digest % 4294967291 * 257 + n % 4294967291 + 1) % 4294967291
+
+-- a digest with more numbers in it, one after the other
+unfoldable pub mixedOf : ℕ → List ℕ → ℕ
+mixedOf digest [] = digest
+mixedOf digest (n ∷ ns) = mixedOf (mixOf digest n) ns
+
+-- what reading `count` bytes to place `at` leaves: the place behind those that came, and all else as it was
+pub record Loaded (at count place : ℕ) (before after : List ℕ) : Type 0 where
+  pub first : at ≤ place
+  pub last : place ≤ at + count
+  pub front : take at after ≡ take at before
+  pub rest : drop (at + count) after ≡ drop (at + count) before
