@@ -1,7 +1,9 @@
 // The head of a vector: 16 bytes, numbers low byte first.
-pub const SIZE: usize = 16;
+use buffer::byte_at;
+use vectors::half;
+use vectors::word;
 
-pub type Head = [u8; SIZE];
+pub const SIZE: usize = 16;
 
 pub const WRITE: u8 = 1;
 
@@ -18,22 +20,14 @@ pub struct Vector {
     pub byte: u8,
 }
 
-fn number(a: u8, b: u8, c: u8, d: u8) -> usize {
-    a as usize + b as usize * 256 + c as usize * 65536 + d as usize * 16777216
-}
-
-pub(crate) fn parse(head: &Head) -> Vector {
-    let body = number(head[2], head[3], 0, 0);
-    let size = number(head[4], head[5], head[6], head[7]);
-    let room = number(head[8], head[9], head[10], head[11]);
-    let place = number(head[12], head[13], head[14], 0);
+pub(crate) fn parse(head: &[u8]) -> Vector {
     Vector {
-        kind: head[0],
-        seed: head[1],
-        body,
-        size,
-        room,
-        place,
-        byte: head[15],
+        kind: byte_at(head, 0),
+        seed: byte_at(head, 1),
+        body: half(head, 2) as usize,
+        size: word(head, 4) as usize,
+        room: word(head, 8) as usize,
+        place: (word(head, 12) % 0x100_0000) as usize,
+        byte: byte_at(head, 15),
     }
 }

@@ -1,57 +1,65 @@
 // Replays the file vectors.bin through the job crate, and prints a line for each call.
 //
 // model/job_vectors.py makes the file and the text that this program has to print, and says what both mean.
-mod bytes;
 mod head;
-mod line;
 mod walk;
 
 use head::Vector;
-use libc::STDERR_FILENO;
-use libc::STDOUT_FILENO;
+use refusal::Done;
 
 // Room for the longest text and the longest buffer of a vector.
 const ROOM: usize = 61000;
 
-// A proved loop has to end, and nothing says that a file does: more vectors than any file of ours has.
-const MOST_VECTORS: u64 = 1000000;
+// What a call answered, and what it left in its buffer; which call it was is picked by number.
+fn print(call: usize, done: Done, out: &[u8]) {
+    let told = vectors::told(done);
+    vectors::print(
+        b"[R|W|R|M] # # # #\n",
+        &[
+            call,
+            told.number,
+            told.line,
+            told.count,
+            vectors::digest(out),
+        ],
+    );
+}
 
-// Whether another whole head was there.
-fn next(fd: i32, head: &mut head::Head) -> bool {
-    io::read_full(fd, head) == head::SIZE
+// The call that a vector is about.
+fn call(kind: u8, input: &[u8], out: &mut [u8]) -> Done {
+    if kind == head::WRITE {
+        return job::write(input, out);
+    }
+    job::read(input, out)
+}
+
+// What else is asked of a text.
+fn look(kind: u8, input: &[u8]) {
+    if kind != head::TEXT {
+        return;
+    }
+    let walk = walk::whole(input);
+    vectors::print(
+        b"K [0|0|1] # # #\n",
+        &[
+            walk.over as usize,
+            walk.events as usize,
+            walk.at,
+            walk.digest,
+        ],
+    );
+    print(3, job::measure(input), b"");
 }
 
 // The calls of one vector.
 fn perform(kind: u8, input: &[u8], out: &mut [u8]) {
-    if kind == head::WRITE {
-        let done = job::write(input, out);
-        line::print(b"W ", done, out);
-        return;
-    }
-    let done = job::read(input, out);
-    line::print(b"R ", done, out);
-    if kind == head::TEXT {
-        walk::print(input);
-        line::print(b"M ", job::measure(input), b"");
-    }
+    let done = call(kind, input, out);
+    print(kind as usize, done, out);
+    look(kind, input);
 }
 
-// Reads the body of a vector to the front of `text`.
-fn load(fd: i32, text: &mut [u8], body: usize) {
-    if body <= text.len() {
-        io::read_full(fd, &mut text[0..body]);
-    }
-}
-
-// Makes the input of a vector.
-fn prepare(fd: i32, vector: Vector, text: &mut [u8]) {
-    load(fd, text, vector.body);
-    bytes::repeat(text, vector.body, vector.size);
-    bytes::poke(text, vector.place, vector.byte);
-}
-
-// Makes the input and the buffer of a vector, and lets it happen.
-fn turn(fd: i32, vector: Vector, text: &mut [u8], out: &mut [u8]) {
+// Lends both buffers in the length that the vector asks for. What finds no room has no line.
+fn lend(vector: Vector, text: &[u8], out: &mut [u8]) {
     let size = vector.size;
     let room = vector.room;
     if text.len() < size {
@@ -60,33 +68,33 @@ fn turn(fd: i32, vector: Vector, text: &mut [u8], out: &mut [u8]) {
     if out.len() < room {
         return;
     }
-    prepare(fd, vector, text);
-    bytes::ramp(out, vector.seed);
     perform(vector.kind, &text[0..size], &mut out[0..room]);
 }
 
+// Makes the input and the buffer of a vector, and lets it happen.
+fn turn(fd: i32, vector: Vector, text: &mut [u8], out: &mut [u8]) {
+    vectors::load(fd, text, 0, vector.body);
+    vectors::repeat(text, 0, vector.body, 0, vector.size);
+    vectors::ramp(text, vector.place, 1, vector.byte, 0);
+    vectors::ramp(out, 0, vector.room, vector.seed, 7);
+    lend(vector, text, out);
+}
+
 // How many vectors there were.
-fn replay(fd: i32) -> u64 {
-    let mut text = [0u8; ROOM];
-    let mut out = [0u8; ROOM];
-    let mut head = [0u8; head::SIZE];
-    let mut left = MOST_VECTORS;
-    while left > 0 && next(fd, &mut head) {
-        turn(fd, head::parse(&head), &mut text, &mut out);
-        left -= 1;
+fn replay(fd: i32, head: &mut [u8], text: &mut [u8], out: &mut [u8]) -> usize {
+    let mut count = 0;
+    while count < vectors::MOST && vectors::next(fd, head) {
+        turn(fd, head::parse(head), text, out);
+        count += 1;
     }
-    MOST_VECTORS - left
+    count
 }
 
 fn main() {
-    let fd = os::open_read(b"vectors.bin");
-    if fd < 0 {
-        io::write_all(STDERR_FILENO, b"The file vectors.bin cannot be read.\n");
-        return;
-    }
-    let vectors = replay(fd);
-    libc::close(fd);
-    io::write_all(STDOUT_FILENO, b"vectors ");
-    io::print_decimal(STDOUT_FILENO, vectors);
-    io::write_all(STDOUT_FILENO, b"\n");
+    let mut head = [0u8; head::SIZE];
+    let mut text = [0u8; ROOM];
+    let mut out = [0u8; ROOM];
+    let fd = vectors::open();
+    let count = replay(fd, &mut head, &mut text, &mut out);
+    vectors::finish(fd, b"vectors #\n", count);
 }

@@ -1,67 +1,61 @@
 // A walk over a text by `text::item_at`, and its line.
-use crate::bytes::mix;
 use text::Item;
 
-// Where the walk is, the events that it met, the digest of its items, and whether it is over: 1 at the end, 2 at a malformed line.
-struct Walk {
-    at: usize,
-    events: u32,
-    digest: u32,
-    over: u8,
+// Where the walk is, the events that it met, the digest of its items, and whether it is over: 1 at the end, 2 at a
+// malformed line.
+pub struct Walk {
+    pub at: usize,
+    pub events: u32,
+    pub digest: usize,
+    pub over: u8,
 }
 
-fn met(walk: Walk, digest: u32, next: usize) -> Walk {
-    let events = std::num::wrapping_add_u32(walk.events, 1);
+fn requested(walk: Walk, setup: request::Setup, data: usize, next: usize) -> Walk {
+    let numbers = [
+        1,
+        setup.kind as usize,
+        setup.code as usize,
+        setup.value as usize,
+        setup.index as usize,
+        setup.length as usize,
+        data,
+        next,
+    ];
     Walk {
         at: next,
-        events,
-        digest,
+        events: std::num::wrapping_add_u32(walk.events, 1),
+        digest: vectors::mix(walk.digest, &numbers),
         over: 0,
     }
 }
 
-fn requested(walk: Walk, setup: request::Setup, data: usize, next: usize) -> Walk {
-    let kind = mix(mix(walk.digest, 1), setup.kind as usize);
-    let value = mix(mix(kind, setup.code as usize), setup.value as usize);
-    let length = mix(mix(value, setup.index as usize), setup.length as usize);
-    met(walk, mix(mix(length, data), next), next)
-}
-
 fn step(text: &[u8], walk: Walk) -> Walk {
-    if walk.over != 0 {
-        return walk;
-    }
     let found = text::item_at(text, walk.at);
     match found {
         Item::End => Walk { over: 1, ..walk },
         Item::Bad => Walk { over: 2, ..walk },
-        Item::Attach { next } => met(walk, mix(mix(walk.digest, 0), next), next),
+        Item::Attach { next } => Walk {
+            at: next,
+            events: std::num::wrapping_add_u32(walk.events, 1),
+            digest: vectors::mix(walk.digest, &[0, next]),
+            over: 0,
+        },
         Item::Request { setup, data, next } => requested(walk, setup, data, next),
     }
 }
 
-fn met_bad(walk: Walk) -> u64 {
-    if walk.over == 2 { 1 } else { 0 }
-}
-
-pub(crate) fn print(text: &[u8]) {
+// A proved loop has to end: more steps than any text of ours has.
+pub(crate) fn whole(text: &[u8]) -> Walk {
     let mut walk = Walk {
         at: 0,
         events: 0,
         digest: 1,
         over: 0,
     };
-    let mut left = text.len();
-    while left > 0 {
+    let mut left = vectors::MOST;
+    while left > 0 && walk.over == 0 {
         walk = step(text, walk);
         left -= 1;
     }
-    walk = step(text, walk);
-    crate::line::write(
-        b"K ",
-        met_bad(walk),
-        walk.events as u64,
-        walk.at as u64,
-        walk.digest as u64,
-    );
+    walk
 }

@@ -1,17 +1,16 @@
--- `replay_plan::bytes::scatter` is safe and ends. Assumes nothing.
-use native.Mathlib.Omega.{arith}
+-- `replay_plan::scatter` is safe and ends. Assumes nothing.
 use borrow.Author.Needs.{needs}
-use lib.ListN.{length, length-set}
 use Prim.Native.Nat.{_-_}
+use lib.ListN.{length, length-set}
 use mathlib.Core.Path.{_≡_}
-use Rattle.replay_plan.proofs.bytes.scatter.Statement.{statement}
-use Rattle.replay_plan.proofs.bytes.scatter.Tie as tie
+use Rattle.replay_plan.proofs.scatter.Statement.{statement}
+use Rattle.replay_plan.proofs.scatter.Tie as tie
 
 abbrev Inv-loop : tie.InvT-loop
-Inv-loop out₀ seed number₀ i₀ out number i = length out ≡ length out₀
+Inv-loop out₀ count seed number₀ i₀ out number i = length out ≡ length out₀
 
 abbrev μ-loop : tie.MeasureT-loop
-μ-loop out₀ seed number₀ i₀ out number i = length out - i
+μ-loop out₀ count seed number₀ i₀ out number i = count - i
 
 loop-holds : tie.Need-loop-holds Inv-loop μ-loop
 loop-holds c = search needs
@@ -29,16 +28,22 @@ add-i : tie.Need-add-i Inv-loop μ-loop
 add-i c = search needs
 
 loop-less : tie.Need-loop-less Inv-loop μ-loop
-loop-less c = simp length-set (omega arith)
+loop-less c = search needs
 
 loop-again : tie.Need-loop-again Inv-loop μ-loop
-loop-again c = simp length-set (c .before .before .loop .inv)
+loop-again c = simp length-set (c .before .before .before .loop .inv)
 
 same-length : tie.Need-same-length Inv-loop μ-loop
 same-length c = search needs
 
 returns : tie.Need-returns Inv-loop μ-loop
 returns c = search needs
+
+same-length-2 : tie.Need-same-length-2 Inv-loop μ-loop
+same-length-2 c = search needs
+
+returns-2 : tie.Need-returns-2 Inv-loop μ-loop
+returns-2 c = search needs
 
 pub scatter-spec : {M : Type 1} → statement M
 scatter-spec =
@@ -54,4 +59,6 @@ scatter-spec =
     loop-less
     loop-again
     same-length
-    returns)
+    returns
+    same-length-2
+    returns-2)
