@@ -1,22 +1,24 @@
 // The header of a job, and the head of a chunk of its text; numbers have their low byte first.
+ghost use Prim.Native.Nat.{_≤_};
+use buffer::byte_at;
+use vectors::half;
+
 pub const JOB: usize = 48;
 
 pub const CHUNK: usize = 8;
 
 // The kinds of chunk.
-pub const END: u8 = 0;
+const LITERAL: u8 = 1;
 
-pub const LITERAL: u8 = 1;
+const RAMP: u8 = 2;
 
-pub const RAMP: u8 = 2;
-
-pub const AGAIN: u8 = 3;
+const AGAIN: u8 = 3;
 
 // Where the card stands in a header.
 pub const CARD: usize = 8;
 
 // The right length of the checker's work area.
-const WORK: usize = 38944;
+const WORK: u16 = 38944;
 
 // A header taken apart: the lengths, and what image and work area are made of.
 pub struct Job {
@@ -24,55 +26,64 @@ pub struct Job {
     pub factor: u8,
     pub seed: u8,
     pub work: usize,
-    pub card: usize,
+    pub card_end: usize,
     pub work_seed: u8,
     pub work_step: u8,
 }
 
-// A head taken apart. The bytes of a ramp are modulo 256, so that the low byte of its start will do.
+// A head taken apart: how many bytes follow, how often the last literal comes again, and the part of a ramp that is
+// spelled. Only the one that the head is about is not 0. The bytes of a ramp are modulo 256, so that the low byte of
+// its start will do.
 pub struct Chunk {
-    pub kind: u8,
-    pub count: usize,
-    pub start: u8,
+    pub literal: u16,
+    pub again: u16,
+    pub from: usize,
+    pub to: usize,
     pub factor: u8,
     pub seed: u8,
 }
 
-fn number(low: u8, high: u8) -> usize {
-    low as usize + high as usize * 256
+// Reads a head, if there is another whose first byte is not 0: a 0 ends what the heads are of.
+pub(crate) fn next(fd: i32, head: &mut [u8]) -> bool {
+    vectors::next(fd, head) & (byte_at(head, 0) != 0)
 }
 
-fn work_length(code: u8) -> usize {
-    match code {
-        0 => WORK,
-        1 => WORK - 1,
-        2 => WORK + 1,
-        _ => 0,
-    }
-}
-
-pub(crate) fn job_of(header: &[u8; JOB]) -> Job {
-    let image = number(header[2], header[3]);
-    let work = work_length(header[6]);
-    let card = number(header[7], 0);
+pub(crate) fn job_of(header: &[u8]) -> Job
+    ensures { λ r. ⌜ 8 ≤ r .«card_end» ⌝ }
+{
+    let card = byte_at(header, 7) as usize;
     Job {
-        image,
-        factor: header[4],
-        seed: header[5],
-        work,
-        card,
-        work_seed: header[40],
-        work_step: header[41],
+        image: half(header, 2) as usize,
+        factor: byte_at(header, 4),
+        seed: byte_at(header, 5),
+        work: vectors::lent(byte_at(header, 6), WORK),
+        card_end: CARD + card,
+        work_seed: byte_at(header, 40),
+        work_step: byte_at(header, 41),
     }
 }
 
-pub(crate) fn chunk_of(head: &[u8; CHUNK]) -> Chunk {
-    let count = number(head[2], head[3]);
+// The number, where the kind is the one that it belongs to.
+fn of(kind: u8, wanted: u8, number: u16) -> u16 {
+    if kind == wanted { number } else { 0 }
+}
+
+pub(crate) fn product(a: u16, b: u16) -> usize
+    ensures { λ r. ⌜ r ≤ 0xFFFE_0001 ⌝ }
+{
+    a as usize * b as usize
+}
+
+pub(crate) fn chunk_of(head: &[u8]) -> Chunk {
+    let kind = byte_at(head, 0);
+    let count = half(head, 2);
+    let from = of(kind, RAMP, byte_at(head, 4) as u16) as usize;
     Chunk {
-        kind: head[0],
-        count,
-        start: head[4],
-        factor: head[6],
-        seed: head[7],
+        literal: of(kind, LITERAL, count),
+        again: of(kind, AGAIN, count),
+        from,
+        to: from + of(kind, RAMP, count) as usize,
+        factor: byte_at(head, 6),
+        seed: byte_at(head, 7),
     }
 }
