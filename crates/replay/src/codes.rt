@@ -1,6 +1,4 @@
 // Modes and pending commands as the numbers that stand for them in records and lines.
-ghost use Prim.Native.Nat.{_<_};
-ghost use mathlib.Core.Path.{_≡_};
 use device::Pending;
 use mode::Mode;
 
@@ -87,36 +85,38 @@ pub(crate) fn pending(s: Spelled) -> Pending {
     }
 }
 
-fn bare(kind: u8) -> Spelled
-    ensures { λ r. ⌜ r .kind ≡ kind ⌝ }
-{
-    Spelled {
-        kind,
+pub(crate) fn spell(pending: Pending) -> Spelled {
+    let none = Spelled {
+        kind: NOTHING,
         address: 0,
         block: 0,
         count: 0,
-    }
-}
-
-pub(crate) fn spell(pending: Pending) -> Spelled
-    ensures { λ r. ⌜ r .kind < 16 ⌝ }
-{
+    };
     match pending {
-        Pending::Nothing => bare(NOTHING),
+        Pending::Nothing => none,
         Pending::SetPointer(address) => Spelled {
+            kind: SET_POINTER,
             address,
-            ..bare(SET_POINTER)
+            ..none
         },
         Pending::ErasePage(address) => Spelled {
+            kind: ERASE_PAGE,
             address,
-            ..bare(ERASE_PAGE)
+            ..none
         },
-        Pending::MassErase => bare(MASS_ERASE),
-        Pending::ReadUnprotect => bare(READ_UNPROTECT),
+        Pending::MassErase => Spelled {
+            kind: MASS_ERASE,
+            ..none
+        },
+        Pending::ReadUnprotect => Spelled {
+            kind: READ_UNPROTECT,
+            ..none
+        },
         Pending::Write { block, count } => Spelled {
+            kind: WRITE,
+            address: 0,
             block,
             count,
-            ..bare(WRITE)
         },
     }
 }

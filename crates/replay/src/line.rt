@@ -1,175 +1,106 @@
 // The line that an event prints: fields of fixed width in capital hexadecimal, parted by a space.
-ghost use Prim.Native.Nat.{_≤_, _<_, _+_};
-ghost use mathlib.Core.Path.{_≡_};
-ghost use lib.ListN.{length};
 use crate::codes;
-use crate::fill;
-use crate::scene;
-use crate::scene::Block;
-use crate::scene::Memory;
-use crate::scene::Reply;
-use crate::scene::Scene;
-use device::Device;
-use libc::STDOUT_FILENO;
+use buffer::byte_at;
 use loader::Answer;
 use loader::Stepped;
+use vectors::digest;
 
-// Where the fields begin.
-const ANSWER: usize = 0;
-
-const VALUE: usize = 2;
-
-const MODE: usize = 7;
-
-const STATUS: usize = 10;
-
-const POINTER: usize = 13;
-
-const KIND: usize = 22;
-
-const ADDRESS: usize = 24;
-
-const NUMBER: usize = 33;
-
-const COUNT: usize = 38;
-
-const MEMORY_DIGEST: usize = 43;
-
-const BLOCK_DIGEST: usize = 52;
-
-const REPLY_DIGEST: usize = 61;
-
-const FRONT: usize = 70;
-
-// How many bytes of the reply buffer are shown, and the room for them and for the line's end.
-const SHOWN: usize = 6;
-
-const ROOM: usize = FRONT + 2 * SHOWN + 1;
-
-type Line = [u8; ROOM];
-
-const DIGEST_FACTOR: u64 = 257;
-
-const DIGEST_PRIME: u64 = 4294967291;
-
-fn digit(x: u8) -> u8
-    requires { ⌜ x < 16 ⌝ }
-{
-    if x < 10 { b'0' + x } else { b'A' - 10 + x }
+// An answer in numbers: which it is, and the reply's length or the refusal's number.
+struct Spoken {
+    letter: usize,
+    value: usize,
 }
 
-fn put8(line: &mut Line, at: usize, x: u8)
-    requires { do ⌜ at + 2 ≤ (← ⟦ROOM⟧) ⌝ }
-{
-    line[at] = digit(x / 16);
-    line[at + 1] = digit(x % 16);
-}
-
-fn put16(line: &mut Line, at: usize, x: u16)
-    requires { do ⌜ at + 4 ≤ (← ⟦ROOM⟧) ⌝ }
-{
-    put8(line, at, (x / 256) as u8);
-    put8(line, at + 2, (x % 256) as u8);
-}
-
-fn put32(line: &mut Line, at: usize, x: u32)
-    requires { do ⌜ at + 8 ≤ (← ⟦ROOM⟧) ⌝ }
-{
-    put16(line, at, (x / 65536) as u16);
-    put16(line, at + 4, (x % 65536) as u16);
-}
-
-fn wide(x: u8) -> u64
-    ensures { λ r. ⌜ (r ≡ x) × (r < 256) ⌝ }
-{
-    x as u64
-}
-
-// Of the first n bytes.
-fn digest(s: &[u8], n: usize) -> u32
-    requires { ⌜ n ≤ length (now s) ⌝ }
-{
-    let mut h: u64 = 1;
-    let mut i = 0;
-    while i < n {
-        h = (h * DIGEST_FACTOR + wide(s[i]) + 1) % DIGEST_PRIME;
-        i += 1;
-    }
-    h as u32
-}
-
-fn letter(answer: Answer) -> u8 {
+fn numbers_of(answer: Answer) -> Spoken {
     match answer {
-        Answer::Accepted => b'A',
-        Answer::Reply(_) => b'P',
-        Answer::Stall => b'S',
-        Answer::Silent => b'N',
-        Answer::Refused(_) => b'R',
+        Answer::Accepted => Spoken {
+            letter: 0,
+            value: 0,
+        },
+        Answer::Reply(n) => Spoken {
+            letter: 1,
+            value: n,
+        },
+        Answer::Stall => Spoken {
+            letter: 2,
+            value: 0,
+        },
+        Answer::Silent => Spoken {
+            letter: 3,
+            value: 0,
+        },
+        Answer::Refused(why) => Spoken {
+            letter: 4,
+            value: why.number() as usize,
+        },
     }
 }
 
-// No reply is as long as four digits can say; one that were would show as the largest number.
-fn value(answer: Answer) -> u16 {
-    match answer {
-        Answer::Reply(n) => if n < 65536 { n as u16 } else { 65535 },
-        Answer::Refused(refusal) => refusal.number() as u16,
-        _ => 0,
-    }
-}
-
-fn put_device(line: &mut Line, device: Device) {
-    let mode = device.mode;
-    let pending = device.pending;
-    let command = codes::spell(pending);
-    put8(line, MODE, codes::code(mode));
-    put8(line, STATUS, device.status);
-    put32(line, POINTER, device.pointer);
-    line[KIND] = digit(command.kind);
-    put32(line, ADDRESS, command.address);
-    put16(line, NUMBER, command.block);
-    put16(line, COUNT, command.count);
-}
-
-// The first n bytes of the reply buffer and the line's end; answers how long the line is.
-fn put_front(line: &mut Line, reply: &[u8], n: usize) -> usize
-    requires { do ⌜ (n ≤ length (now reply)) × (n ≤ (← ⟦SHOWN⟧)) ⌝ }
-    ensures { λ r. do ⌜ r ≤ (← ⟦ROOM⟧ .entry) ⌝ }
-{
-    let mut i = 0;
-    while i < n {
-        put8(line, FRONT + 2 * i, reply[i]);
-        i += 1;
-    }
-    line[FRONT + 2 * i] = b'\n';
-    FRONT + 2 * i + 1
-}
-
-fn write_front(line: &Line, n: usize)
-    requires { do ⌜ n ≤ (← ⟦ROOM⟧) ⌝ }
-{
-    let whole: &[u8] = line;
-    io::write_all(STDOUT_FILENO, &whole[0..n]);
-}
-
-pub(crate) fn print(scene: Scene, stepped: Stepped, memory: &Memory, block: &Block, reply: &Reply) {
-    let mut line = [b' '; ROOM];
+// The answer and the device, in front of the line.
+fn print_device(stepped: Stepped) {
     let answer = stepped.answer;
     let device = stepped.device;
-    let replied = scene::sized(scene.reply, scene::REPLY);
-    line[ANSWER] = letter(answer);
-    put16(&mut line, VALUE, value(answer));
-    put_device(&mut line, device);
-    put32(
-        &mut line,
-        MEMORY_DIGEST,
-        digest(memory, scene::sized(scene.memory, scene::MEMORY)),
+    let spoken = numbers_of(answer);
+    let mode = device.mode;
+    let pending = device.pending;
+    let p = device.pointer as usize;
+    let command = codes::spell(pending);
+    let a = command.address as usize;
+    let n = command.block as usize;
+    let c = command.count as usize;
+    vectors::print(
+        b"[A|P|S|N|R] %% % % %%%% # %%%% %% %% ",
+        &[
+            spoken.letter,
+            spoken.value / 256,
+            spoken.value,
+            codes::code(mode) as usize,
+            device.status as usize,
+            p / 16777216,
+            p / 65536,
+            p / 256,
+            p,
+            command.kind as usize,
+            a / 16777216,
+            a / 65536,
+            a / 256,
+            a,
+            n / 256,
+            n,
+            c / 256,
+            c,
+        ],
     );
-    put32(
-        &mut line,
-        BLOCK_DIGEST,
-        digest(block, scene::sized(scene.block, scene::BLOCK)),
+}
+
+// Behind them the digest of each buffer, and the reply buffer's first six bytes, if it has any.
+pub(crate) fn print(stepped: Stepped, memory: &[u8], block: &[u8], reply: &[u8]) {
+    print_device(stepped);
+    let m = digest(memory);
+    let b = digest(block);
+    let y = digest(reply);
+    vectors::print(
+        b"%%%% %%%% %%%% [|%%%%%%]\n",
+        &[
+            m / 16777216,
+            m / 65536,
+            m / 256,
+            m,
+            b / 16777216,
+            b / 65536,
+            b / 256,
+            b,
+            y / 16777216,
+            y / 65536,
+            y / 256,
+            y,
+            reply.len(),
+            byte_at(reply, 0) as usize,
+            byte_at(reply, 1) as usize,
+            byte_at(reply, 2) as usize,
+            byte_at(reply, 3) as usize,
+            byte_at(reply, 4) as usize,
+            byte_at(reply, 5) as usize,
+        ],
     );
-    put32(&mut line, REPLY_DIGEST, digest(reply, replied));
-    let n = put_front(&mut line, reply, fill::least(replied, SHOWN));
-    write_front(&line, n);
 }

@@ -3,92 +3,103 @@
 // model/vectors.py makes the file and the text that this program has to print; model/tape.py says
 // what both mean.
 mod codes;
-mod fill;
 mod line;
 mod record;
 mod scene;
 
-use libc::STDERR_FILENO;
-use libc::STDOUT_FILENO;
-use record::Record;
-use scene::Block;
-use scene::Memory;
-use scene::Reply;
+use device::Device;
 use scene::Scene;
 
-// A proved loop has to end, and nothing says that a file does: more records than any file of ours has.
-const MOST_RECORDS: u64 = 1000000;
+// Room for a record with the longest request behind it, and for every buffer a byte longer than is right.
+const TAPE_ROOM: usize = 4152;
 
-// Whether another whole record was there.
-fn next(fd: i32, record: &mut Record) -> bool {
-    io::read_full(fd, record) == record::SIZE
+const MEMORY_ROOM: usize = 18449;
+
+const BLOCK_ROOM: usize = 2049;
+
+const REPLY_ROOM: usize = 2049;
+
+// Lets the event happen, if the record is one, and prints what became of it.
+fn happen(
+    device: Device,
+    kind: u8,
+    request: &[u8],
+    memory: &mut [u8],
+    block: &mut [u8],
+    reply: &mut [u8],
+) -> Device {
+    if record::events(kind) == 0 {
+        return device;
+    }
+    let event = record::event(kind);
+    let stepped = loader::step(device, event, request, memory, block, reply);
+    line::print(stepped, memory, block, reply);
+    stepped.device
 }
 
-// Lets the event happen, and prints what became of it.
-fn happen(
+// The step is lent the request behind the record, and the front of each buffer.
+fn lend(
     scene: Scene,
-    record: &Record,
-    memory: &mut Memory,
-    block: &mut Block,
-    reply: &mut Reply,
-) -> Scene {
-    let mut request = [0u8; record::REQUEST_ROOM];
-    let count = record::request(record, &mut request);
-    let event = record::event(record);
-    let stepped = scene::perform(scene, event, &request, count, memory, block, reply);
-    line::print(scene, stepped, memory, block, reply);
-    let device = stepped.device;
-    Scene { device, ..scene }
+    tape: &[u8],
+    memory: &mut [u8],
+    block: &mut [u8],
+    reply: &mut [u8],
+) -> Device {
+    let device = scene.device;
+    let ends = scene::ends_of(scene, tape.len(), memory.len(), block.len(), reply.len());
+    let from = ends.from;
+    let to = ends.to;
+    let m = ends.memory;
+    let b = ends.block;
+    let y = ends.reply;
+    happen(
+        device,
+        scene.kind,
+        &tape[from..to],
+        &mut memory[0..m],
+        &mut block[0..b],
+        &mut reply[0..y],
+    )
 }
 
 fn turn(
-    scene: Scene,
-    record: &Record,
-    memory: &mut Memory,
-    block: &mut Block,
-    reply: &mut Reply,
+    before: Scene,
+    tape: &[u8],
+    memory: &mut [u8],
+    block: &mut [u8],
+    reply: &mut [u8],
 ) -> Scene {
-    match record::kind(record) {
-        record::SCENE => scene::set(record, memory, block, reply),
-        record::DEVICE => {
-            let device = record::device(record);
-            Scene { device, ..scene }
-        }
-        record::ATTACH | record::REQUEST => happen(scene, record, memory, block, reply),
-        record::POKE => {
-            scene::poke(record, memory);
-            scene
-        }
-        _ => scene,
-    }
+    let scene = scene::after(before, tape);
+    scene::paint(tape, memory, block, reply);
+    let device = lend(scene, tape, memory, block, reply);
+    Scene { device, ..scene }
 }
 
 // How many events there were.
-fn replay(fd: i32) -> u64 {
-    let mut memory = [0u8; scene::MEMORY_ROOM];
-    let mut block = [0u8; scene::BLOCK_ROOM];
-    let mut reply = [0u8; scene::REPLY_ROOM];
-    let mut record = [0u8; record::SIZE];
+fn replay(
+    fd: i32,
+    tape: &mut [u8],
+    memory: &mut [u8],
+    block: &mut [u8],
+    reply: &mut [u8],
+) -> usize {
     let mut scene = scene::empty();
-    let mut events: u64 = 0;
-    let mut left = MOST_RECORDS;
-    while left > 0 && next(fd, &mut record) {
-        scene = turn(scene, &record, &mut memory, &mut block, &mut reply);
-        events += record::events(&record);
-        left -= 1;
+    let mut events = 0;
+    let mut count = 0;
+    while count < vectors::MOST && record::next(fd, tape) {
+        scene = turn(scene, tape, memory, block, reply);
+        events += record::events(scene.kind);
+        count += 1;
     }
     events
 }
 
 fn main() {
-    let fd = os::open_read(b"vectors.bin");
-    if fd < 0 {
-        io::write_all(STDERR_FILENO, b"The file vectors.bin cannot be read.\n");
-        return;
-    }
-    let events = replay(fd);
-    libc::close(fd);
-    io::write_all(STDOUT_FILENO, b"events ");
-    io::print_decimal(STDOUT_FILENO, events);
-    io::write_all(STDOUT_FILENO, b"\n");
+    let mut tape = [0u8; TAPE_ROOM];
+    let mut memory = [0u8; MEMORY_ROOM];
+    let mut block = [0u8; BLOCK_ROOM];
+    let mut reply = [0u8; REPLY_ROOM];
+    let fd = vectors::open();
+    let events = replay(fd, &mut tape, &mut memory, &mut block, &mut reply);
+    vectors::finish(fd, b"events #\n", events);
 }

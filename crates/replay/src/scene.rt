@@ -1,183 +1,202 @@
 // The board that the vectors play on: its three buffers, of right or wrong length, and the device.
-ghost use Prim.Native.Nat.{_≤_, _<_, _+_};
-ghost use lib.ListN.{length};
-use crate::fill;
+ghost use Prim.Native.Nat.{_≤_};
 use crate::record;
-use crate::record::Record;
-use crate::record::Request;
+use buffer::byte_at;
 use device::Device;
 use device::Pending;
-use loader::Event;
-use loader::Stepped;
 use mode::Mode;
+use vectors::lent;
+use vectors::ramp;
 
-pub const MEMORY: usize = 18448;
+const MEMORY: u16 = 18448;
 
-pub const BLOCK: usize = 2048;
+const BLOCK: u16 = 2048;
 
-pub const REPLY: usize = 2048;
+const REPLY: u16 = 2048;
 
-const FLASH: usize = 16384;
-
+// Where the option bytes begin.
 const OPTIONS_AT: usize = 18432;
-
-const OPTIONS: usize = 16;
 
 const FLASH_START: u32 = 0x08000000;
 
-// Every buffer can be a byte longer than is right.
-pub const MEMORY_ROOM: usize = MEMORY + 1;
-
-pub const BLOCK_ROOM: usize = BLOCK + 1;
-
-pub const REPLY_ROOM: usize = REPLY + 1;
-
-pub type Memory = [u8; MEMORY_ROOM];
-
-pub type Block = [u8; BLOCK_ROOM];
-
-pub type Reply = [u8; REPLY_ROOM];
-
-// What a scene lays into them.
-const ERASED: u8 = 0xFF;
-
-const EXTRA: u8 = 0x77;
-
-const BLOCK_STEP: usize = 3;
-
-const REPLY_STEP: usize = 5;
-
-// The lengths are codes, which `sized` reads.
+// The kind of the last record, how long its request is, and how much of each buffer the step is lent.
 pub struct Scene {
     pub device: Device,
-    pub memory: u8,
-    pub block: u8,
-    pub reply: u8,
+    pub kind: u8,
+    pub request: usize,
+    pub memory: usize,
+    pub block: usize,
+    pub reply: usize,
 }
 
-// How much of each buffer the step is lent.
-struct Ends {
-    request: usize,
-    memory: usize,
-    block: usize,
-    reply: usize,
+// The same as places, which lie in the buffers.
+pub struct Ends {
+    pub from: usize,
+    pub to: usize,
+    pub memory: usize,
+    pub block: usize,
+    pub reply: usize,
 }
 
-fn fresh() -> Device {
-    Device {
-        mode: Mode::Idle,
-        status: 0,
-        pointer: FLASH_START,
-        pending: Pending::Nothing,
+// What a record lays into the buffers: how many bytes of memory are mottled, how many are then the same, and which; how
+// many option bytes; a byte at a place; how many bytes of block and reply buffer.
+struct Strokes {
+    seed: u8,
+    mottled: usize,
+    plain: usize,
+    byte: u8,
+    options: usize,
+    place: usize,
+    poked: usize,
+    poke: u8,
+    others: usize,
+}
+
+fn least(a: usize, b: usize) -> usize
+    ensures { λ r. ⌜ (r ≤ a) × (r ≤ b) ⌝ }
+{
+    if a < b { a } else { b }
+}
+
+pub(crate) fn ends_of(scene: Scene, tape: usize, memory: usize, block: usize, reply: usize) -> Ends
+    ensures { λ r. ⌜ (r .from ≤ r .to) × (r .to ≤ tape) × (r .memory ≤ memory) × (r .block ≤ block) × (r .reply ≤ reply) ⌝ }
+{
+    let to = least(record::SIZE + least(scene.request, 4104), tape);
+    Ends {
+        from: least(record::SIZE, to),
+        to,
+        memory: least(scene.memory, memory),
+        block: least(scene.block, block),
+        reply: least(scene.reply, reply),
     }
 }
 
 pub(crate) fn empty() -> Scene {
     Scene {
-        device: fresh(),
+        device: Device {
+            mode: Mode::Idle,
+            status: 0,
+            pointer: FLASH_START,
+            pending: Pending::Nothing,
+        },
+        kind: record::SCENE,
+        request: 0,
         memory: 0,
         block: 0,
         reply: 0,
     }
 }
 
-// Right, a byte short, a byte long, or empty.
-pub(crate) fn sized(code: u8, right: usize) -> usize
-    requires { ⌜ (0 < right) × (right < 65536) ⌝ }
-    ensures { λ r. ⌜ r ≤ right + 1 ⌝ }
+// The scene that a record makes of the one before. Lengths are codes: right, a byte short, a byte long, or empty.
+pub(crate) fn after(scene: Scene, tape: &[u8]) -> Scene {
+    match byte_at(tape, 0) {
+        record::SCENE => Scene {
+            memory: lent(byte_at(tape, 19), MEMORY),
+            block: lent(byte_at(tape, 20), BLOCK),
+            reply: lent(byte_at(tape, 21), REPLY),
+            ..empty()
+        },
+        record::DEVICE => Scene {
+            device: record::device(tape),
+            kind: record::DEVICE,
+            ..scene
+        },
+        kind => Scene {
+            kind,
+            request: record::length(kind, byte_at(tape, 9), vectors::half(tape, 10)),
+            ..scene
+        },
+    }
+}
+
+fn mixed(i: usize, seed: u8) -> u8
+    requires { ⌜ i ≤ 65535 ⌝ }
 {
-    match code {
-        0 => right,
-        1 => right - 1,
-        2 => right + 1,
-        _ => 0,
+    ((i * 7 + i / 256 + seed as usize) % 256) as u8
+}
+
+// Bytes that differ from place to place and from page to page.
+fn mottle(memory: &mut [u8], count: usize, seed: u8) {
+    let end = least(least(count, memory.len()), 65535);
+    let mut i = 0;
+    while i < end {
+        memory[i] = mixed(i, seed);
+        i += 1;
     }
 }
 
-// What lies past the end of a short memory is painted too, and never lent.
-fn paint(memory: &mut Memory, pattern: u8, seed: u8) {
-    match pattern {
-        0 => fill::ramp(memory, 0, MEMORY, 0, ERASED),
-        1 => fill::ramp(memory, 0, MEMORY, 0, 0),
-        2 => fill::mottle(memory, seed),
-        _ => {
-            fill::mottle(memory, seed);
-            fill::ramp(memory, 0, FLASH, 0, ERASED);
-        }
-    }
-}
-
-pub(crate) fn set(
-    record: &Record,
-    memory: &mut Memory,
-    block: &mut Block,
-    reply: &mut Reply,
-) -> Scene {
-    let seed = record[record::SEED_AT];
-    paint(memory, record[record::PATTERN_AT], seed);
-    fill::copy(record, record::OPTIONS_AT, memory, OPTIONS_AT, OPTIONS);
-    memory[MEMORY] = EXTRA;
-    fill::ramp(block, 0, BLOCK_ROOM, BLOCK_STEP, seed);
-    fill::ramp(reply, 0, REPLY_ROOM, REPLY_STEP, seed);
-    Scene {
-        device: fresh(),
-        memory: record[record::MEMORY_AT],
-        block: record[record::BLOCK_AT],
-        reply: record[record::REPLY_AT],
-    }
-}
-
-pub(crate) fn poke(record: &Record, memory: &mut Memory) {
-    let offset = record::offset(record);
-    if offset < MEMORY_ROOM {
-        memory[offset] = record[record::BYTE_AT];
-    }
-}
-
-// The step is lent the front of each buffer.
-fn step(
-    device: Device,
-    event: Event,
-    request: &[u8],
-    memory: &mut [u8],
-    block: &mut [u8],
-    reply: &mut [u8],
-    ends: Ends,
-) -> Stepped
-    requires { ⌜ (ends .request ≤ length (now request)) × (ends .memory ≤ length (now memory)) ⌝ }
-    requires { ⌜ (ends .block ≤ length (now block)) × (ends .reply ≤ length (now reply)) ⌝ }
-{
-    let q = ends.request;
-    let m = ends.memory;
-    let b = ends.block;
-    let y = ends.reply;
-    loader::step(
-        device,
-        event,
-        &request[0..q],
-        &mut memory[0..m],
-        &mut block[0..b],
-        &mut reply[0..y],
-    )
-}
-
-pub(crate) fn perform(
-    scene: Scene,
-    event: Event,
-    request: &Request,
-    count: usize,
-    memory: &mut Memory,
-    block: &mut Block,
-    reply: &mut Reply,
-) -> Stepped
-    requires { do ⌜ count ≤ (← ⟦record::REQUEST_ROOM⟧) ⌝ }
-{
-    let device = scene.device;
-    let ends = Ends {
-        request: count,
-        memory: sized(scene.memory, MEMORY),
-        block: sized(scene.block, BLOCK),
-        reply: sized(scene.reply, REPLY),
+// The pattern of a scene: blank, all zeros, a mixture, or blank flash before the mixture.
+fn pattern(code: u8, seed: u8) -> Strokes {
+    let mixture = Strokes {
+        seed,
+        mottled: 18448,
+        plain: 0,
+        byte: 0xFF,
+        options: 16,
+        place: 18448,
+        poked: 1,
+        poke: 0x77,
+        others: 2049,
     };
-    step(device, event, request, memory, block, reply, ends)
+    match code {
+        0 => Strokes {
+            plain: 18448,
+            ..mixture
+        },
+        1 => Strokes {
+            plain: 18448,
+            byte: 0,
+            ..mixture
+        },
+        2 => mixture,
+        _ => Strokes {
+            plain: 16384,
+            ..mixture
+        },
+    }
+}
+
+// Of all records only a scene and a poke change a buffer.
+fn strokes_of(tape: &[u8]) -> Strokes {
+    let none = Strokes {
+        seed: 0,
+        mottled: 0,
+        plain: 0,
+        byte: 0,
+        options: 0,
+        place: vectors::word(tape, 4) as usize,
+        poked: 0,
+        poke: byte_at(tape, 8),
+        others: 0,
+    };
+    match byte_at(tape, 0) {
+        record::SCENE => pattern(byte_at(tape, 1), byte_at(tape, 2)),
+        record::POKE => Strokes { poked: 1, ..none },
+        _ => none,
+    }
+}
+
+// The option bytes of a scene.
+fn lay_options(tape: &[u8], count: usize, memory: &mut [u8]) {
+    if count != 16 {
+        return;
+    }
+    if tape.len() < 19 {
+        return;
+    }
+    if memory.len() < 18448 {
+        return;
+    }
+    buffer::put(memory, OPTIONS_AT, &tape[3..19]);
+}
+
+// Lays into the buffers what the record asks for.
+pub(crate) fn paint(tape: &[u8], memory: &mut [u8], block: &mut [u8], reply: &mut [u8]) {
+    let strokes = strokes_of(tape);
+    mottle(memory, strokes.mottled, strokes.seed);
+    ramp(memory, 0, strokes.plain, strokes.byte, 0);
+    lay_options(tape, strokes.options, memory);
+    ramp(memory, strokes.place, strokes.poked, strokes.poke, 0);
+    ramp(block, 0, strokes.others, strokes.seed, 3);
+    ramp(reply, 0, strokes.others, strokes.seed, 5);
 }
