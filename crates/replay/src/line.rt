@@ -48,7 +48,7 @@ fn print_device(stepped: Stepped) {
     let a = command.address as usize;
     let n = command.block as usize;
     let c = command.count as usize;
-    vectors::print(
+    feed::print(
         b"[A|P|S|N|R] %% % % %%%% # %%%% %% %% ",
         &[
             spoken.letter,
@@ -79,7 +79,7 @@ pub(crate) fn print(stepped: Stepped, memory: &[u8], block: &[u8], reply: &[u8])
     let m = digest(memory);
     let b = digest(block);
     let y = digest(reply);
-    vectors::print(
+    feed::print(
         b"%%%% %%%% %%%% [|%%%%%%]\n",
         &[
             m / 16777216,

@@ -86,7 +86,7 @@ fn replay(
     let mut scene = scene::empty();
     let mut events = 0;
     let mut count = 0;
-    while count < vectors::MOST && record::next(fd, tape) {
+    while count < feed::MOST && record::next(fd, tape) {
         scene = turn(scene, tape, memory, block, reply);
         events += record::events(scene.kind);
         count += 1;
@@ -99,7 +99,7 @@ fn main() {
     let mut memory = [0u8; MEMORY_ROOM];
     let mut block = [0u8; BLOCK_ROOM];
     let mut reply = [0u8; REPLY_ROOM];
-    let fd = vectors::open();
+    let fd = feed::open();
     let events = replay(fd, &mut tape, &mut memory, &mut block, &mut reply);
-    vectors::finish(fd, b"events #\n", events);
+    feed::finish(fd, b"events #\n", events);
 }

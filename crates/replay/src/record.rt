@@ -31,7 +31,7 @@ const DATA_AT: usize = SIZE + SETUP;
 // Whether another whole record was there. A request is spread out behind its record: the setup, and data that are made up
 // or given.
 pub(crate) fn next(fd: i32, tape: &mut [u8]) -> bool {
-    let end = vectors::load(fd, tape, 0, SIZE);
+    let end = feed::load(fd, tape, 0, SIZE);
     let given = byte_at(tape, 12) as usize;
     let count = half(tape, 10) as usize;
     let seed = byte_at(tape, 13);

@@ -45,7 +45,7 @@ pub struct Chunk {
 
 // Reads a head, if there is another whose first byte is not 0: a 0 ends what the heads are of.
 pub(crate) fn next(fd: i32, head: &mut [u8]) -> bool {
-    vectors::next(fd, head) & (byte_at(head, 0) != 0)
+    feed::next(fd, head) & (byte_at(head, 0) != 0)
 }
 
 pub(crate) fn job_of(header: &[u8]) -> Job

@@ -32,7 +32,7 @@ fn shown(size: usize, is_refused: bool) -> usize
 fn print_digest(is_refused: bool, work: &[u8]) {
     if is_refused {
         let d = vectors::digest(work);
-        vectors::print(b"\t%%%%\n", &[d / 16777216, d / 65536, d / 256, d]);
+        feed::print(b"\t%%%%\n", &[d / 16777216, d / 65536, d / 256, d]);
     }
 }
 

@@ -56,7 +56,7 @@ fn prepare(header: &[u8], text: &[u8], image: &mut [u8], work: &mut [u8]) {
 // How many jobs there were. A header that is no job's ends the file.
 fn replay(fd: i32, header: &mut [u8], text: &mut [u8], image: &mut [u8], work: &mut [u8]) -> usize {
     let mut count = 0;
-    while count < vectors::MOST && head::next(fd, header) {
+    while count < feed::MOST && head::next(fd, header) {
         let size = text::read(fd, text, work);
         prepare(header, &text[0..size], image, work);
         count += 1;
@@ -69,7 +69,7 @@ fn main() {
     let mut text = [0u8; TEXT_ROOM];
     let mut image = [0u8; IMAGE_ROOM];
     let mut work = [0u8; WORK_ROOM];
-    let fd = vectors::open();
+    let fd = feed::open();
     let count = replay(fd, &mut header, &mut text, &mut image, &mut work);
-    vectors::finish(fd, b"jobs #\n", count);
+    feed::finish(fd, b"jobs #\n", count);
 }

@@ -50,7 +50,7 @@ fn noted(made: Made, literal: u16, size: usize) -> Made {
 // The chunk goes behind the text. Of a literal, a ramp and a repetition two have no bytes.
 fn add(fd: i32, made: Made, chunk: Chunk, text: &mut [u8], ramp: &mut [u8]) -> Made {
     vectors::ramp(ramp, 0, chunk.to, chunk.seed, chunk.factor);
-    let end = vectors::load(fd, text, made.size, chunk.literal as usize);
+    let end = feed::load(fd, text, made.size, chunk.literal as usize);
     let next = noted(made, chunk.literal, end);
     let count = head::product(next.literal, chunk.again);
     let again = vectors::repeat(text, next.at, next.literal as usize, next.size, count);
@@ -68,7 +68,7 @@ pub(crate) fn read(fd: i32, text: &mut [u8], ramp: &mut [u8]) -> usize
         at: 0,
         literal: 0,
     };
-    let mut left = vectors::MOST;
+    let mut left = feed::MOST;
     while left > 0 && head::next(fd, &mut head) {
         made = add(fd, made, head::chunk_of(&head), text, ramp);
         left -= 1;

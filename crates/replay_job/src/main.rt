@@ -13,7 +13,7 @@ const ROOM: usize = 61000;
 // What a call answered, and what it left in its buffer; which call it was is picked by number.
 fn print(call: usize, done: Done, out: &[u8]) {
     let told = vectors::told(done);
-    vectors::print(
+    feed::print(
         b"[R|W|R|M] # # # #\n",
         &[
             call,
@@ -39,7 +39,7 @@ fn look(kind: u8, input: &[u8]) {
         return;
     }
     let walk = walk::whole(input);
-    vectors::print(
+    feed::print(
         b"K [0|0|1] # # #\n",
         &[
             walk.over as usize,
@@ -73,7 +73,7 @@ fn lend(vector: Vector, text: &[u8], out: &mut [u8]) {
 
 // Makes the input and the buffer of a vector, and lets it happen.
 fn turn(fd: i32, vector: Vector, text: &mut [u8], out: &mut [u8]) {
-    vectors::load(fd, text, 0, vector.body);
+    feed::load(fd, text, 0, vector.body);
     vectors::repeat(text, 0, vector.body, 0, vector.size);
     vectors::ramp(text, vector.place, 1, vector.byte, 0);
     vectors::ramp(out, 0, vector.room, vector.seed, 7);
@@ -83,7 +83,7 @@ fn turn(fd: i32, vector: Vector, text: &mut [u8], out: &mut [u8]) {
 // How many vectors there were.
 fn replay(fd: i32, head: &mut [u8], text: &mut [u8], out: &mut [u8]) -> usize {
     let mut count = 0;
-    while count < vectors::MOST && vectors::next(fd, head) {
+    while count < feed::MOST && feed::next(fd, head) {
         turn(fd, head::parse(head), text, out);
         count += 1;
     }
@@ -94,7 +94,7 @@ fn main() {
     let mut head = [0u8; head::SIZE];
     let mut text = [0u8; ROOM];
     let mut out = [0u8; ROOM];
-    let fd = vectors::open();
+    let fd = feed::open();
     let count = replay(fd, &mut head, &mut text, &mut out);
-    vectors::finish(fd, b"vectors #\n", count);
+    feed::finish(fd, b"vectors #\n", count);
 }

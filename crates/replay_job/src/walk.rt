@@ -52,7 +52,7 @@ pub(crate) fn whole(text: &[u8]) -> Walk {
         digest: 1,
         over: 0,
     };
-    let mut left = vectors::MOST;
+    let mut left = feed::MOST;
     while left > 0 && walk.over == 0 {
         walk = step(text, walk);
         left -= 1;

@@ -31,7 +31,7 @@ fn scatter(out: &mut [u8], count: usize, seed: u32) {
 fn perform(image: &[u8], card: &[u8], out: &mut [u8]) {
     let done = plan::plan(image, card, out);
     let told = vectors::told(done);
-    vectors::print(b"# # #\n", &[told.number, told.count, vectors::digest(out)]);
+    feed::print(b"# # #\n", &[told.number, told.count, vectors::digest(out)]);
 }
 
 // Lends every buffer in the length that the vector asks for; the head holds the card. What finds no room has no line.
@@ -65,7 +65,7 @@ fn turn(head: &[u8], image: &mut [u8], out: &mut [u8]) {
 // How many vectors there were.
 fn replay(fd: i32, head: &mut [u8], image: &mut [u8], out: &mut [u8]) -> usize {
     let mut count = 0;
-    while count < vectors::MOST && vectors::next(fd, head) {
+    while count < feed::MOST && feed::next(fd, head) {
         turn(head, image, out);
         count += 1;
     }
@@ -76,7 +76,7 @@ fn main() {
     let mut head = [0u8; head::SIZE];
     let mut image = [0u8; IMAGE_ROOM];
     let mut out = [0u8; OUT_ROOM];
-    let fd = vectors::open();
+    let fd = feed::open();
     let count = replay(fd, &mut head, &mut image, &mut out);
-    vectors::finish(fd, b"vectors #\n", count);
+    feed::finish(fd, b"vectors #\n", count);
 }

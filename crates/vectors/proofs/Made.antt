@@ -7,14 +7,13 @@ use native.Mathlib.Omega.{arith}
 use native.Mathlib.Nat.{add-zero, sub-zero, add-assoc}
 use native.Mathlib.Numerals.{add-one}
 use borrow.Author.Tests.{ltb-true, leb-true, le-leb, lt-leb, not-true, not-false}
-use borrow.Rule.Slice.PartMut.{midOf, mid-len, putMid, take-put, drop-put}
 use lib.Dec.{leb, ltb}
 use lib.ListN.{length, take, drop, getD, set, drop-of-length-le, take-append-drop}
 use lib.Seq.{drop-cons, sets}
 use Rattle.laws.specs.Bytes.{put}
 use Rattle.laws.proofs.Bytes.{sets-put}
 use Rattle.laws.proofs.Split.{by-lt, and-true}
-use Rattle.vectors.specs.Vectors.{leastOf, rampOf, rampedOf, fitsOf, left, againOf, repeatsOf, repeatedOf, mixOf, mixedOf, Loaded}
+use Rattle.vectors.specs.Vectors.{leastOf, rampOf, rampedOf, fitsOf, left, againOf, repeatsOf, repeatedOf, mixOf, mixedOf}
 
 pub ramp-turn : (m : List ℕ) (at i n b b′ step : ℕ) → i < n → b′ ≡ (b + step) % 2 ^ 8 → sets m (at + i) (rampOf (n - i) b step) ≡ sets (set m (at + i) b) (at + (i + 1)) (rampOf (n - (i + 1)) b′ step)
 unfolding rampOf
@@ -74,11 +73,7 @@ leb-behind size at n h =
     (λ k. let j : size - at < n = omega arith in lt-leb n (size - at) j ∙ sym (lt-leb (at + n) size k))
     (λ k. let j : n ≤ size - at = omega arith in le-leb n (size - at) j ∙ sym (le-leb (at + n) size k))
 
--- what the tests tell
-pub fits-told : (size at count : ℕ) (r : Bool) → r ≡ fitsOf size at count → not r ≡ false → at + count ≤ size
-unfolding fitsOf
-fits-told size at count r e t = leb-true _ _ (sym e ∙ not-false r t)
-
+-- what the test tells
 pub repeats-told : (size from period at count : ℕ) (r : Bool) → r ≡ repeatsOf size from period at count → not r ≡ false → (0 < period) × (from + period ≤ size) × (at + count ≤ size)
 unfolding repeatsOf fitsOf
 repeats-told size from period at count r e t =
@@ -101,19 +96,3 @@ repeated-laid m m′ from period at count r is t e = rw (sym is ∙ not-false r 
 pub repeated-none : (m : List ℕ) (from period at count : ℕ) (r : Bool) → r ≡ repeatsOf (length m) from period at count → not r ≡ true → left at m ≡ repeatedOf from period at count m
 unfolding repeatedOf
 repeated-none m from period at count r is t = rw (sym is ∙ not-true r t)
-
--- the part that was read into is back in its place
-pub loaded-part : (m ys : List ℕ) (at count n : ℕ) → at + count ≤ length m → length ys ≡ length (midOf at (at + count - at) m) → n ≤ length ys → Loaded at count (at + n) m (putMid at (at + count - at) m ys)
-loaded-part m ys at count n h l k =
-    let a : at ≤ at + count = omega arith in
-    let b : at ≤ length m = omega arith in
-    let e : length ys ≡ at + count - at = l ∙ mid-len at (at + count) m h in
-    record {
-      first = omega arith;
-      last = omega arith;
-      front = take-put at (at + count - at) m ys b;
-      rest = drop-put at (at + count) m ys a h e;
-    }
-
-pub loaded-none : (m : List ℕ) (at count : ℕ) → Loaded at count at m m
-loaded-none m at count = record { first = omega arith; last = omega arith; front = refl; rest = refl }

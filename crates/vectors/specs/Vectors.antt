@@ -1,10 +1,9 @@
 -- What the programs that play vectors make of numbers and buffers: no rule of the paper. Assumes nothing.
-use mathlib.Core.Path.{_≡_}
 use mathlib.Core.Bool.{Bool, cond, _&&_}
 use mathlib.Core.List.{List, [], _∷_}
-use Prim.Native.Nat.{ℕ, zero, suc, _+_, _-_, _*_, _%_, _≤_}
+use Prim.Native.Nat.{ℕ, zero, suc, _+_, _-_, _*_, _%_}
 use lib.Dec.{eqb, leb, ltb}
-use lib.ListN.{length, take, drop, getD, set}
+use lib.ListN.{length, getD, set}
 use Rattle.laws.specs.Bytes.{put}
 use Rattle.refusal.specs.declared.Done.{Done}
 use Rattle.refusal.specs.declared.Done.the-variants.{Bytes, Refused}
@@ -75,10 +74,3 @@ mixOf digest n = (digest % 4294967291 * 257 + n % 4294967291 + 1) % 4294967291
 unfoldable pub mixedOf : ℕ → List ℕ → ℕ
 mixedOf digest [] = digest
 mixedOf digest (n ∷ ns) = mixedOf (mixOf digest n) ns
-
--- what reading `count` bytes to place `at` leaves: the place behind those that came, and all else as it was
-pub record Loaded (at count place : ℕ) (before after : List ℕ) : Type 0 where
-  pub first : at ≤ place
-  pub last : place ≤ at + count
-  pub front : take at after ≡ take at before
-  pub rest : drop (at + count) after ≡ drop (at + count) before

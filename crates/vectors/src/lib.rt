@@ -1,24 +1,15 @@
-// What the programs that play the models' vectors share: the file, numbers out of a head, bytes made by a rule, digests,
-// lines of numbers.
+// What the programs that play the models' vectors make of numbers and buffers: numbers out of a head, bytes made by a
+// rule, digests.
 //
-// Every function takes any numbers and any buffers; what finds no room is left out. What the system reads and writes no
-// contract can say: the gate compares what the programs print.
+// Every function takes any numbers and any buffers; what finds no room is left out.
 ghost use mathlib.Core.Path.{_≡_};
 ghost use Prim.Native.Nat.{_+_, _-_, _*_, _≤_, _<_};
 ghost use lib.ListN.{length, getD};
-ghost use Rattle.vectors.specs.Vectors.{leastOf, halfOf, wordOf, lentOf, toldOf, rampedOf, fitsOf, left, repeatsOf, repeatedOf, mixOf, mixedOf, Loaded};
-use libc::STDERR_FILENO;
-use libc::STDOUT_FILENO;
+ghost use Rattle.vectors.specs.Vectors.{leastOf, halfOf, wordOf, lentOf, toldOf, rampedOf, fitsOf, left, repeatsOf, repeatedOf, mixOf, mixedOf};
 use refusal::Done;
-
-// A proved loop has to end, and nothing says that a file does: more vectors than any file of ours has.
-pub const MOST: usize = 1000000;
 
 // Digests are below this number, the largest prime that four bytes hold.
 const MODULUS: usize = 4294967291;
-
-// Room for a line.
-const LINE: usize = 256;
 
 // What a call with an output answered, in numbers: the refusal and the line that it names, or 0, and the bytes put out.
 pub struct Answer {
@@ -189,45 +180,4 @@ pub fn digest(bytes: &[u8]) -> usize
         i += 1;
     }
     mixed
-}
-
-// Opens the file of vectors, or says that it cannot be read.
-pub fn open() -> i32 {
-    let fd = os::open_read(b"vectors.bin");
-    if fd < 0 {
-        io::write_all(STDERR_FILENO, b"The file vectors.bin cannot be read.\n");
-    }
-    fd
-}
-
-// Reads a whole head, if there is another.
-pub fn next(fd: i32, head: &mut [u8]) -> bool {
-    io::read_full(fd, head) == head.len()
-}
-
-// Reads `count` bytes of the file to place `at` of the buffer, and gives the place behind those that came. Without room
-// nothing is read.
-pub fn load(fd: i32, buffer: &mut [u8], at: usize, count: usize) -> usize
-    ensures { λ r. ⌜ Loaded at count r (now (buffer .entry)) (now (buffer .exit)) ⌝ }
-{
-    if !fits(buffer.len(), at, count) {
-        return at;
-    }
-    at + io::read_full(fd, &mut buffer[at..at + count])
-}
-
-// Prints what the template says with the numbers, all at once: a line of the output.
-pub fn print(template: &[u8], numbers: &[usize]) {
-    let mut line = [0u8; LINE];
-    let end = sentence::fill(template, numbers, b"", &mut line, 0);
-    io::write_all(STDOUT_FILENO, &line[0..least(end, LINE)]);
-}
-
-// Closes the file, and prints the last line, how many vectors there were; nothing where there was no file.
-pub fn finish(fd: i32, template: &[u8], count: usize) {
-    if fd < 0 {
-        return;
-    }
-    libc::close(fd);
-    print(template, &[count]);
 }
