@@ -11,7 +11,7 @@ use device::Device;
 use scene::Scene;
 
 // Room for a record with the longest request behind it, and for every buffer a byte longer than is right.
-const TAPE_ROOM: usize = 4152;
+const TAPE_ROOM: usize = record::SIZE + record::LONGEST;
 
 const MEMORY_ROOM: usize = 18449;
 

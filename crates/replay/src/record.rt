@@ -21,15 +21,15 @@ const REQUEST: u8 = 3;
 
 pub const POKE: u8 = 4;
 
-// A request's setup, the most data behind it, and where data begin.
+// A request's setup, where data begin, and how long a request can be.
 const SETUP: usize = 8;
-
-const MOST_DATA: usize = 4096;
 
 const DATA_AT: usize = SIZE + SETUP;
 
-// Whether another whole record was there. A request is spread out behind its record: the setup, and data that are made up
-// or given.
+pub const LONGEST: usize = SETUP + 4096;
+
+// Whether another whole record was there. A request is spread out behind its record: the setup, and data that are made
+// up or given.
 pub(crate) fn next(fd: i32, tape: &mut [u8]) -> bool {
     let end = feed::load(fd, tape, 0, SIZE);
     let given = byte_at(tape, 12) as usize;
@@ -76,17 +76,12 @@ pub(crate) fn device(tape: &[u8]) -> Device {
 
 // How long a request is whose setup has `there` bytes and whose data `count`: for an attach there is none, and behind a
 // short setup nothing follows.
-pub(crate) fn length(kind: u8, there: u8, count: u16) -> usize
-    ensures { λ r. ⌜ r ≤ 4104 ⌝ }
-{
+pub(crate) fn length(kind: u8, there: u8, count: u16) -> usize {
     if kind != REQUEST {
         return 0;
     }
     if there < 8 {
         return there as usize;
-    }
-    if 4096 < count {
-        return SETUP + MOST_DATA;
     }
     SETUP + count as usize
 }

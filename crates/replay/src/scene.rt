@@ -14,8 +14,17 @@ const BLOCK: u16 = 2048;
 
 const REPLY: u16 = 2048;
 
-// Where the option bytes begin.
-const OPTIONS_AT: usize = 18432;
+// The same as numbers of bytes to paint: memory, its flash, the option bytes at its end; block and reply buffer with the
+// byte that is too much.
+const ALL: usize = 18448;
+
+const FLASH: usize = 16384;
+
+const OPTIONS: usize = 16;
+
+const OPTIONS_AT: usize = ALL - OPTIONS;
+
+const OTHERS: usize = 2049;
 
 const FLASH_START: u32 = 0x08000000;
 
@@ -59,9 +68,10 @@ fn least(a: usize, b: usize) -> usize
 }
 
 pub(crate) fn ends_of(scene: Scene, tape: usize, memory: usize, block: usize, reply: usize) -> Ends
-    ensures { λ r. ⌜ (r .from ≤ r .to) × (r .to ≤ tape) × (r .memory ≤ memory) × (r .block ≤ block) × (r .reply ≤ reply) ⌝ }
+    ensures { λ r. ⌜ (r .from ≤ r .to) × (r .to ≤ tape) ⌝ }
+    ensures { λ r. ⌜ (r .memory ≤ memory) × (r .block ≤ block) × (r .reply ≤ reply) ⌝ }
 {
-    let to = least(record::SIZE + least(scene.request, 4104), tape);
+    let to = least(record::SIZE + least(scene.request, record::LONGEST), tape);
     Ends {
         from: least(record::SIZE, to),
         to,
@@ -129,28 +139,28 @@ fn mottle(memory: &mut [u8], count: usize, seed: u8) {
 fn pattern(code: u8, seed: u8) -> Strokes {
     let mixture = Strokes {
         seed,
-        mottled: 18448,
+        mottled: ALL,
         plain: 0,
         byte: 0xFF,
-        options: 16,
-        place: 18448,
+        options: OPTIONS,
+        place: ALL,
         poked: 1,
         poke: 0x77,
-        others: 2049,
+        others: OTHERS,
     };
     match code {
         0 => Strokes {
-            plain: 18448,
+            plain: ALL,
             ..mixture
         },
         1 => Strokes {
-            plain: 18448,
+            plain: ALL,
             byte: 0,
             ..mixture
         },
         2 => mixture,
         _ => Strokes {
-            plain: 16384,
+            plain: FLASH,
             ..mixture
         },
     }
@@ -178,13 +188,13 @@ fn strokes_of(tape: &[u8]) -> Strokes {
 
 // The option bytes of a scene.
 fn lay_options(tape: &[u8], count: usize, memory: &mut [u8]) {
-    if count != 16 {
+    if count != OPTIONS {
         return;
     }
     if tape.len() < 19 {
         return;
     }
-    if memory.len() < 18448 {
+    if memory.len() < ALL {
         return;
     }
     buffer::put(memory, OPTIONS_AT, &tape[3..19]);

@@ -101,8 +101,8 @@ pub fn told(done: Done) -> Answer
     }
 }
 
-// `count` bytes from place `at` on, as far as the buffer goes: the seed, then each by the step more than the one before,
-// modulo 256.
+// `count` bytes from place `at` on, as far as the buffer goes: the seed, then each by the step more than the one
+// before, modulo 256.
 pub fn ramp(out: &mut [u8], at: usize, count: usize, seed: u8, step: u8)
     ensures { λ _. ⌜ now (out .exit) ≡ rampedOf at count seed step (now (out .entry)) ⌝ }
 {
@@ -133,8 +133,8 @@ fn repeats(size: usize, from: usize, period: usize, at: usize, count: usize) -> 
     (0 < period) & (fits(size, from, period) & fits(size, at, count))
 }
 
-// `count` bytes from place `at` on become those of the period that begins at place `from`, over and over; gives the place
-// behind them. Without room nothing changes.
+// `count` bytes from place `at` on become those of the period that begins at place `from`, over and over; gives the
+// place behind them. Without room nothing changes.
 pub fn repeat(buffer: &mut [u8], from: usize, period: usize, at: usize, count: usize) -> usize
     ensures { λ r. ⌜ left r (now (buffer .exit)) ≡ repeatedOf from period at count (now (buffer .entry)) ⌝ }
 {
