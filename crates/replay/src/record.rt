@@ -5,8 +5,8 @@ use crate::codes::Spelled;
 use buffer::byte_at;
 use device::Device;
 use loader::Event;
-use vectors::half;
-use vectors::word;
+use vectors::pair;
+use vectors::quad;
 
 pub const SIZE: usize = 48;
 
@@ -33,7 +33,7 @@ pub const LONGEST: usize = SETUP + 4096;
 pub(crate) fn next(fd: i32, tape: &mut [u8]) -> bool {
     let end = feed::load(fd, tape, 0, SIZE);
     let given = byte_at(tape, 12) as usize;
-    let count = half(tape, 10) as usize;
+    let count = pair(tape, 10) as usize;
     let seed = byte_at(tape, 13);
     vectors::repeat(tape, 1, SETUP, SIZE, SETUP);
     vectors::ramp(tape, DATA_AT, count, seed, 11);
@@ -62,14 +62,14 @@ pub(crate) fn device(tape: &[u8]) -> Device {
     let mode = codes::mode(byte_at(tape, 1));
     let pending = codes::pending(Spelled {
         kind: byte_at(tape, 8),
-        address: word(tape, 12),
-        block: half(tape, 16),
-        count: half(tape, 18),
+        address: quad(tape, 12),
+        block: pair(tape, 16),
+        count: pair(tape, 18),
     });
     Device {
         mode,
         status: byte_at(tape, 2),
-        pointer: word(tape, 4),
+        pointer: quad(tape, 4),
         pending,
     }
 }

@@ -113,7 +113,7 @@ pub(crate) fn after(scene: Scene, tape: &[u8]) -> Scene {
         },
         kind => Scene {
             kind,
-            request: record::length(kind, byte_at(tape, 9), vectors::half(tape, 10)),
+            request: record::length(kind, byte_at(tape, 9), vectors::pair(tape, 10)),
             ..scene
         },
     }
@@ -174,7 +174,7 @@ fn strokes_of(tape: &[u8]) -> Strokes {
         plain: 0,
         byte: 0,
         options: 0,
-        place: vectors::word(tape, 4) as usize,
+        place: vectors::quad(tape, 4) as usize,
         poked: 0,
         poke: byte_at(tape, 8),
         others: 0,

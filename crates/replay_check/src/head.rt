@@ -1,7 +1,7 @@
 // The header of a job, and the head of a chunk of its text; numbers have their low byte first.
 ghost use Prim.Native.Nat.{_≤_};
 use buffer::byte_at;
-use vectors::half;
+use vectors::pair;
 
 pub const JOB: usize = 48;
 
@@ -53,7 +53,7 @@ pub(crate) fn job_of(header: &[u8]) -> Job
 {
     let card = byte_at(header, 7) as usize;
     Job {
-        image: half(header, 2) as usize,
+        image: pair(header, 2) as usize,
         factor: byte_at(header, 4),
         seed: byte_at(header, 5),
         work: vectors::lent(byte_at(header, 6), WORK),
@@ -76,7 +76,7 @@ pub(crate) fn product(a: u16, b: u16) -> usize
 
 pub(crate) fn chunk_of(head: &[u8]) -> Chunk {
     let kind = byte_at(head, 0);
-    let count = half(head, 2);
+    let count = pair(head, 2);
     let from = of(kind, RAMP, byte_at(head, 4) as u16) as usize;
     Chunk {
         literal: of(kind, LITERAL, count),

@@ -1,7 +1,7 @@
 // The head of a vector: 16 bytes, numbers low byte first.
 use buffer::byte_at;
-use vectors::half;
-use vectors::word;
+use vectors::pair;
+use vectors::quad;
 
 pub const SIZE: usize = 16;
 
@@ -24,10 +24,10 @@ pub(crate) fn parse(head: &[u8]) -> Vector {
     Vector {
         kind: byte_at(head, 0),
         seed: byte_at(head, 1),
-        body: half(head, 2) as usize,
-        size: word(head, 4) as usize,
-        room: word(head, 8) as usize,
-        place: (word(head, 12) % 0x100_0000) as usize,
+        body: pair(head, 2) as usize,
+        size: quad(head, 4) as usize,
+        room: quad(head, 8) as usize,
+        place: (quad(head, 12) % 0x100_0000) as usize,
         byte: byte_at(head, 15),
     }
 }

@@ -1,8 +1,8 @@
 // A vector: 48 bytes, numbers low byte first.
 ghost use Prim.Native.Nat.{_≤_};
 use buffer::byte_at;
-use vectors::half;
-use vectors::word;
+use vectors::pair;
+use vectors::quad;
 
 pub const SIZE: usize = 48;
 
@@ -32,7 +32,7 @@ fn scattered(kind: u8, size: usize) -> usize {
 pub(crate) fn parse(head: &[u8]) -> Vector
     ensures { λ r. ⌜ 16 ≤ r .«card_end» ⌝ }
 {
-    let image = half(head, 2) as usize;
+    let image = pair(head, 2) as usize;
     let card = byte_at(head, 10) as usize;
     Vector {
         seed: byte_at(head, 1),
@@ -40,8 +40,8 @@ pub(crate) fn parse(head: &[u8]) -> Vector
         first: byte_at(head, 4),
         factor: byte_at(head, 5),
         scattered: scattered(byte_at(head, 0), image),
-        start: word(head, 4),
-        room: half(head, 8) as usize,
+        start: quad(head, 4),
+        room: pair(head, 8) as usize,
         card_end: CARD + card,
     }
 }

@@ -13,7 +13,7 @@ use lib.Seq.{drop-cons, sets}
 use Rattle.laws.specs.Bytes.{put}
 use Rattle.laws.proofs.Bytes.{sets-put}
 use Rattle.laws.proofs.Split.{by-lt, and-true}
-use Rattle.vectors.specs.Vectors.{leastOf, rampOf, rampedOf, fitsOf, left, againOf, repeatsOf, repeatedOf, mixOf, mixedOf}
+use Rattle.vectors.specs.Vectors.{leastOf, rampOf, rampedOf, roomFor, left, againOf, repeatsOf, repeatedOf, mixOf, mixedOf}
 
 pub ramp-turn : (m : List ℕ) (at i n b b′ step : ℕ) → i < n → b′ ≡ (b + step) % 2 ^ 8 → sets m (at + i) (rampOf (n - i) b step) ≡ sets (set m (at + i) b) (at + (i + 1)) (rampOf (n - (i + 1)) b′ step)
 unfolding rampOf
@@ -66,8 +66,8 @@ again-end m i n from period at h =
     rw k
 
 -- a place that there is leaves so much room
-pub leb-behind : (size at n : ℕ) → at ≤ size → leb n (size - at) ≡ fitsOf size at n
-unfolding fitsOf
+pub leb-behind : (size at n : ℕ) → at ≤ size → leb n (size - at) ≡ roomFor size at n
+unfolding roomFor
 leb-behind size at n h =
     by-lt size (at + n)
     (λ k. let j : size - at < n = omega arith in lt-leb n (size - at) j ∙ sym (lt-leb (at + n) size k))
@@ -75,7 +75,7 @@ leb-behind size at n h =
 
 -- what the test tells
 pub repeats-told : (size from period at count : ℕ) (r : Bool) → r ≡ repeatsOf size from period at count → not r ≡ false → (0 < period) × (from + period ≤ size) × (at + count ≤ size)
-unfolding repeatsOf fitsOf
+unfolding repeatsOf roomFor
 repeats-told size from period at count r e t =
     let p = and-true (ltb 0 period) (leb (from + period) size && leb (at + count) size) (sym e ∙ not-false r t) in
     let q = and-true (leb (from + period) size) (leb (at + count) size) (p .1) in

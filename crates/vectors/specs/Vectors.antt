@@ -8,22 +8,22 @@ use Rattle.laws.specs.Bytes.{put}
 use Rattle.refusal.specs.declared.Done.{Done}
 use Rattle.refusal.specs.declared.Done.the-variants.{Bytes, Refused}
 use Rattle.refusal.specs.Refusal.{numberOf, lineNamed}
-use Rattle.vectors.specs.declared.Answer.{Answer}
+use Rattle.vectors.specs.declared.Numbers.{Numbers}
 
 -- two bytes as a number, low byte first
-abbrev pub halfOf : List ℕ → ℕ → ℕ
-halfOf bs at = getD bs at 0 + getD bs (at + 1) 0 * 0x100
+abbrev pub pairOf : List ℕ → ℕ → ℕ
+pairOf bs at = getD bs at 0 + getD bs (at + 1) 0 * 0x100
 
 -- four bytes, likewise
-abbrev pub wordOf : List ℕ → ℕ → ℕ
-wordOf bs at = getD bs at 0 + getD bs (at + 1) 0 * 0x100 + getD bs (at + 2) 0 * 0x1_0000 + getD bs (at + 3) 0 * 0x100_0000
+abbrev pub quadOf : List ℕ → ℕ → ℕ
+quadOf bs at = getD bs at 0 + getD bs (at + 1) 0 * 0x100 + getD bs (at + 2) 0 * 0x1_0000 + getD bs (at + 3) 0 * 0x100_0000
 
 -- how much of a buffer is lent: its right length, a byte less, a byte more, or nothing
 abbrev pub lentOf : ℕ → ℕ → ℕ
 lentOf code right = cond (eqb code 0) right (cond (eqb code 1) (right - 1) (cond (eqb code 2) (right + 1) 0))
 
 -- an answer in numbers: the refusal and the line that it names, or 0, and the bytes put out
-abbrev pub toldOf : Done → Answer
+abbrev pub toldOf : Done → Numbers
 toldOf (Bytes n) = record { number = 0; line = 0; count = n }
 toldOf (Refused r) = record { number = numberOf r; line = lineNamed r; count = 0 }
 
@@ -41,8 +41,8 @@ unfoldable pub rampedOf : ℕ → ℕ → ℕ → ℕ → List ℕ → List ℕ
 rampedOf at count seed step out = put at (rampOf (leastOf count (length out - at)) seed step) out
 
 -- is there room for `count` bytes from place `at` on
-unfoldable pub fitsOf : ℕ → ℕ → ℕ → Bool
-fitsOf size at count = leb (at + count) size
+unfoldable pub roomFor : ℕ → ℕ → ℕ → Bool
+roomFor size at count = leb (at + count) size
 
 -- what a call leaves: the place behind its bytes, and the buffer
 pub record Laid : Type 0 where
@@ -60,7 +60,7 @@ againOf (suc n) i from period at m = againOf n (suc i) from period at (set m (at
 
 -- there is a period, and room for it and for the bytes
 unfoldable pub repeatsOf : ℕ → ℕ → ℕ → ℕ → ℕ → Bool
-repeatsOf size from period at count = ltb 0 period && (fitsOf size from period && fitsOf size at count)
+repeatsOf size from period at count = ltb 0 period && (roomFor size from period && roomFor size at count)
 
 -- so many bytes of it, or nothing at all
 unfoldable pub repeatedOf : ℕ → ℕ → ℕ → ℕ → List ℕ → Laid

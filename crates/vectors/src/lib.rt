@@ -5,14 +5,14 @@
 ghost use mathlib.Core.Path.{_≡_};
 ghost use Prim.Native.Nat.{_+_, _-_, _*_, _≤_, _<_};
 ghost use lib.ListN.{length, getD};
-ghost use Rattle.vectors.specs.Vectors.{leastOf, halfOf, wordOf, lentOf, toldOf, rampedOf, fitsOf, left, repeatsOf, repeatedOf, mixOf, mixedOf};
+ghost use Rattle.vectors.specs.Vectors.{leastOf, pairOf, quadOf, lentOf, toldOf, rampedOf, roomFor, left, repeatsOf, repeatedOf, mixOf, mixedOf};
 use refusal::Done;
 
 // Digests are below this number, the largest prime that four bytes hold.
 const MODULUS: usize = 4294967291;
 
 // What a call with an output answered, in numbers: the refusal and the line that it names, or 0, and the bytes put out.
-pub struct Answer {
+pub struct Numbers {
     pub number: usize,
     pub line: usize,
     pub count: usize,
@@ -51,16 +51,16 @@ fn join_wide(a: u8, b: u8, c: u8, d: u8) -> u32
 }
 
 // The number in two bytes from place `at` on, low byte first; a byte past the end counts as 0.
-pub fn half(bytes: &[u8], at: u8) -> u16
-    ensures { λ r. ⌜ r ≡ halfOf (now (bytes .entry)) at ⌝ }
+pub fn pair(bytes: &[u8], at: u8) -> u16
+    ensures { λ r. ⌜ r ≡ pairOf (now (bytes .entry)) at ⌝ }
 {
     let i = at as usize;
     join(buffer::byte_at(bytes, i), buffer::byte_at(bytes, i + 1))
 }
 
 // The number in four bytes, likewise.
-pub fn word(bytes: &[u8], at: u8) -> u32
-    ensures { λ r. ⌜ r ≡ wordOf (now (bytes .entry)) at ⌝ }
+pub fn quad(bytes: &[u8], at: u8) -> u32
+    ensures { λ r. ⌜ r ≡ quadOf (now (bytes .entry)) at ⌝ }
 {
     let i = at as usize;
     join_wide(
@@ -84,16 +84,16 @@ pub fn lent(code: u8, right: u16) -> usize
 }
 
 // An answer in numbers.
-pub fn told(done: Done) -> Answer
+pub fn told(done: Done) -> Numbers
     ensures { λ r. ⌜ r ≡ toldOf done ⌝ }
 {
     match done {
-        Done::Bytes(count) => Answer {
+        Done::Bytes(count) => Numbers {
             number: 0,
             line: 0,
             count,
         },
-        Done::Refused(why) => Answer {
+        Done::Refused(why) => Numbers {
             number: wide(why.number()),
             line: why.line(),
             count: 0,
@@ -118,7 +118,7 @@ pub fn ramp(out: &mut [u8], at: usize, count: usize, seed: u8, step: u8)
 
 // Is there room for `count` bytes from place `at` on?
 fn fits(size: usize, at: usize, count: usize) -> bool
-    ensures { λ r. ⌜ r ≡ fitsOf size at count ⌝ }
+    ensures { λ r. ⌜ r ≡ roomFor size at count ⌝ }
 {
     if size < at {
         return false;

@@ -3,13 +3,13 @@ use mathlib.Core.Path.{sym}
 use Prim.Native.Nat.{_+_, _<_}
 use native.Mathlib.Omega.{arith}
 use borrow.Author.Tests.{lt-leb}
-use Rattle.vectors.specs.Vectors.{fitsOf}
+use Rattle.vectors.specs.Vectors.{roomFor}
 use Rattle.vectors.proofs.Made.{leb-behind}
 use Rattle.vectors.proofs.fits.Statement.{statement}
 use Rattle.vectors.proofs.fits.Tie as tie
 
 returns : tie.Need-returns
-unfolding fitsOf
+unfolding roomFor
 returns c =
     let a = c .before .args in
     let h : a .size < a .at + a .count = omega arith in
