@@ -1,35 +1,31 @@
 // Checks a job against an image and a card: one line on standard output says the verdict, and a sentence or two on
 // standard error say it to people, unless the call asks for the line alone.
-mod deed;
-mod ends;
-mod event;
-mod explain;
-mod flash;
-mod form;
-mod place;
-mod refused;
-mod say;
-mod trial;
-
 use board::Board;
 use files::Got;
 use libc::STDERR_FILENO;
 use libc::STDOUT_FILENO;
+use refusal::Done;
 use refusal::Refusal;
+use request::Setup;
 use verdict::Verdict;
+
+const FLASH: usize = Board::LOGGER.pages as usize * Board::PAGE;
 
 // A byte more than the longest job, image and card.
 const JOB_ROOM: usize = job::LIMIT + 1;
 
-const IMAGE_ROOM: usize = trial::FLASH + 1;
+const IMAGE_ROOM: usize = FLASH + 1;
 
 const CARD_ROOM: usize = Board::OPTION_BYTES + 1;
 
 // The checker's work area has two bytes for each of the memory, and a block.
-const WORK: usize = 2 * trial::MEMORY + trial::TRANSFER;
+const WORK: usize = 2 * (FLASH + Board::RAM_BYTES + Board::OPTION_BYTES) + Setup::TRANSFER as usize;
 
 // A line has a word, a digit or two, and a number.
 const LINE_ROOM: usize = 64;
+
+// Room for the sentence about a file.
+const ROOM: usize = 512;
 
 // The arguments of a call that names all three files: the program's own name is the first. With a word behind them
 // there is one more, at this place.
@@ -38,11 +34,19 @@ const NAMED: usize = 4;
 // The bytes of the word.
 const WORD: usize = 5;
 
+// Words for people.
+fn say(words: &[u8]) {
+    files::write(STDERR_FILENO, words, words.len());
+}
+
 // Prints the verdict's line.
 fn print(verdict: Verdict) {
     let mut line = [0u8; LINE_ROOM];
     let done = verdict::report(verdict, &mut line);
-    say::front(STDOUT_FILENO, &line, say::size(done));
+    match done {
+        Done::Bytes(count) => files::write(STDOUT_FILENO, &line, count),
+        Done::Refused(_) => {}
+    }
 }
 
 // The first file that was not read: the argument that names it, or 0 where all were, and how it came out.
@@ -64,9 +68,9 @@ fn note(missed: Missed, argument: usize, got: Got) -> Missed {
 
 // What to say of a file that could not be read.
 fn tell(got: Got, argument: usize, file: &[u8]) {
-    let mut room = [0u8; say::ROOM];
+    let mut room = [0u8; ROOM];
     let count = files::unreadable(got, argument, file, &mut room);
-    say::front(STDERR_FILENO, &room, count);
+    files::write(STDERR_FILENO, &room, count);
 }
 
 // Refuses for that file.
@@ -78,7 +82,7 @@ fn refuse(missed: Missed) {
         2 => tell(got, argument, b"image|image.bin|job, image and card"),
         _ => tell(got, argument, b"card|card.bin|job, image and card"),
     }
-    say::text(b"\n");
+    say(b"\n");
 }
 
 fn judge(job: &[u8], image: &[u8], card: &[u8], is_quiet: bool) {
@@ -88,8 +92,8 @@ fn judge(job: &[u8], image: &[u8], card: &[u8], is_quiet: bool) {
     if is_quiet {
         return;
     }
-    explain::explain(verdict, job, image, card, &mut work);
-    say::text(b"\n");
+    advice::explain(verdict, job, image, card, &mut work);
+    say(b"\n");
 }
 
 // Judges the job where all files were read, or refuses.
@@ -157,7 +161,7 @@ fn main() {
         return;
     }
     print(Verdict::Refused(Refusal::File));
-    say::text(
+    say(
         b"Name three files, the job, the image and the card, or none to take job.txt, image.bin and card.bin in this folder; behind three names, add the word quiet for the line alone.\n",
     );
 }

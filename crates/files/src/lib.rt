@@ -1,4 +1,4 @@
-// Files: read into lent buffers, and what to say of one that cannot be read.
+// Files: read into lent buffers, and what to say of one that cannot be read; and words written.
 //
 // A program tells of a file which argument names it and, in one text with bars, what it is, what it is called in the
 // current folder, where it is found when there is no such argument, and all that the program takes: `job|job.txt|job
@@ -185,4 +185,9 @@ pub fn unreadable(got: Got, argument: usize, file: &[u8], out: &mut [u8]) -> usi
         out,
         0,
     )
+}
+
+// Writes the first `count` bytes, or all where there are not so many.
+pub fn write(fd: i32, words: &[u8], count: usize) {
+    io::write_all(fd, &words[0..least(count, words.len())]);
 }

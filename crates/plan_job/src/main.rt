@@ -20,18 +20,12 @@ const JOB_ROOM: usize = 36078;
 // The arguments of a call that names both files: the program's own name is the first.
 const NAMED: usize = 3;
 
-fn write(job: &[u8], size: usize) {
-    if size <= job.len() {
-        io::write_all(STDOUT_FILENO, &job[0..size]);
-    }
-}
-
 // Writes the job of an image for a card.
 fn perform(image: &[u8], card: &[u8]) {
     let mut job = [0u8; JOB_ROOM];
     let done = plan::plan(image, card, &mut job);
     match done {
-        Done::Bytes(size) => write(&job, size),
+        Done::Bytes(size) => files::write(STDOUT_FILENO, &job, size),
         Done::Refused(why) => refuse::plan(why, image, card),
     }
 }

@@ -11,18 +11,12 @@ const LINE_ROOM: usize = 64;
 
 const ROOM: usize = 512;
 
-fn write(words: &[u8], count: usize) {
-    if count <= words.len() {
-        io::write_all(STDERR_FILENO, &words[0..count]);
-    }
-}
-
 // The line.
 fn name(why: Refusal) {
     let mut line = [0u8; LINE_ROOM];
     let done = verdict::report(Verdict::Refused(why), &mut line);
     match done {
-        Done::Bytes(count) => write(&line, count),
+        Done::Bytes(count) => files::write(STDERR_FILENO, &line, count),
         Done::Refused(_) => {}
     }
 }
@@ -31,7 +25,7 @@ fn name(why: Refusal) {
 fn tell(template: &[u8], a: usize, b: usize, c: usize) {
     let mut room = [0u8; ROOM];
     let count = sentence::fill(template, &[a, b, c], b"", &mut room, 0);
-    write(&room, count);
+    files::write(STDERR_FILENO, &room, count);
 }
 
 // Arguments that are not two files.
@@ -50,7 +44,7 @@ pub(crate) fn unreadable(got: Got, argument: usize, file: &[u8]) {
     let mut room = [0u8; ROOM];
     let count = files::unreadable(got, argument, file, &mut room);
     name(Refusal::File);
-    write(&room, count);
+    files::write(STDERR_FILENO, &room, count);
     tell(b"\n", 0, 0, 0);
 }
 

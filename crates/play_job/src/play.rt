@@ -23,7 +23,7 @@ fn print(number: usize, pointer: u32, asked: Asked, stepped: Stepped, old: &[u8]
     let end = event::outcome(stepped, &mut line, end);
     let end = change::list(old, new, change::INLINE, &mut line, end);
     let end = words::say(b"\n", &mut line, end);
-    refuse::write(STDOUT_FILENO, &line, end);
+    files::write(STDOUT_FILENO, &line, end);
 }
 
 // Lets an event happen and prints its line; gives the device after it.
@@ -62,7 +62,7 @@ fn conclude(number: usize, device: Device, old: &[u8], new: &[u8]) {
         &mut line,
         listed,
     );
-    refuse::write(STDOUT_FILENO, &line, end);
+    files::write(STDOUT_FILENO, &line, end);
 }
 
 // Plays packed events on a board that was just attached, if it is one.

@@ -11,19 +11,12 @@ const LINE_ROOM: usize = 64;
 
 const ROOM: usize = 512;
 
-// The first `count` bytes.
-pub(crate) fn write(fd: i32, words: &[u8], count: usize) {
-    if count <= words.len() {
-        io::write_all(fd, &words[0..count]);
-    }
-}
-
 // The line.
 fn name(why: Refusal) {
     let mut line = [0u8; LINE_ROOM];
     let done = verdict::report(Verdict::Refused(why), &mut line);
     match done {
-        Done::Bytes(count) => write(STDOUT_FILENO, &line, count),
+        Done::Bytes(count) => files::write(STDOUT_FILENO, &line, count),
         Done::Refused(_) => {}
     }
 }
@@ -34,7 +27,7 @@ pub(crate) fn say(why: Refusal, template: &[u8]) {
     let line = why.line();
     let count = sentence::fill(template, &[line, line], b"", &mut room, 0);
     name(why);
-    write(STDERR_FILENO, &room, count);
+    files::write(STDERR_FILENO, &room, count);
 }
 
 // A file that is not readable.
@@ -43,5 +36,5 @@ pub(crate) fn unreadable(got: Got, argument: usize, file: &[u8]) {
     let end = files::unreadable(got, argument, file, &mut room);
     let count = words::say(b"\n", &mut room, end);
     name(Refusal::File);
-    write(STDERR_FILENO, &room, count);
+    files::write(STDERR_FILENO, &room, count);
 }

@@ -6,7 +6,7 @@ use refusal::Done;
 use request::Request;
 
 // Room for the longest sentence.
-pub const ROOM: usize = 512;
+const ROOM: usize = 512;
 
 // Room for the longest name.
 const NAME: usize = 64;
@@ -25,19 +25,15 @@ pub(crate) fn least(a: usize, b: usize) -> usize
     if a < b { a } else { b }
 }
 
-pub(crate) fn front(fd: i32, words: &[u8], count: usize) {
-    io::write_all(fd, &words[0..least(count, words.len())]);
-}
-
 pub(crate) fn text(text: &[u8]) {
-    io::write_all(STDERR_FILENO, text);
+    files::write(STDERR_FILENO, text, text.len());
 }
 
 // A sentence, as the crate `sentence` reads a template.
 pub(crate) fn fill(template: &[u8], numbers: &[usize]) {
     let mut room = [0u8; ROOM];
     let count = sentence::fill(template, numbers, b"", &mut room, 0);
-    front(STDERR_FILENO, &room, count);
+    files::write(STDERR_FILENO, &room, count);
 }
 
 // One with up to four numbers.
@@ -48,11 +44,11 @@ pub(crate) fn tell(template: &[u8], a: usize, b: usize, c: usize, d: usize) {
 pub(crate) fn request(request: Request) {
     let mut room = [0u8; NAME];
     let count = words::request(request, &mut room, 0);
-    front(STDERR_FILENO, &room, count);
+    files::write(STDERR_FILENO, &room, count);
 }
 
 pub(crate) fn mode(mode: Mode) {
     let mut room = [0u8; NAME];
     let count = words::mode(mode, &mut room, 0);
-    front(STDERR_FILENO, &room, count);
+    files::write(STDERR_FILENO, &room, count);
 }

@@ -1,8 +1,8 @@
--- `check_job::trial::first_changed` meets its contract. Assumes nothing.
+-- `advice::trial::first_changed` meets its contract. Assumes nothing.
 use borrow.Author.Needs.{needs}
 use Prim.Native.Nat.{_-_, _≤_}
-use Rattle.check_job.proofs.trial.first_changed.Statement.{statement}
-use Rattle.check_job.proofs.trial.first_changed.Tie as tie
+use Rattle.advice.proofs.trial.first_changed.Statement.{statement}
+use Rattle.advice.proofs.trial.first_changed.Tie as tie
 
 abbrev Inv-loop : tie.InvT-loop
 Inv-loop memory card i₀ i = i ≤ 16

@@ -1,10 +1,10 @@
--- `check_job::trial::live` is safe and ends. Assumes nothing.
+-- `advice::trial::live` is safe and ends. Assumes nothing.
 use borrow.Author.Needs.{needs}
 use lib.ListN.{length}
 use Prim.Native.Nat.{_-_, _≤_}
 use mathlib.Core.Path.{_≡_}
-use Rattle.check_job.proofs.trial.live.Statement.{statement}
-use Rattle.check_job.proofs.trial.live.Tie as tie
+use Rattle.advice.proofs.trial.live.Statement.{statement}
+use Rattle.advice.proofs.trial.live.Tie as tie
 
 abbrev Inv-loop : tie.InvT-loop
 Inv-loop packed events place memory₀ block₀ reply₀ scene₀ count₀ memory block reply scene count = (count ≤ events) × (length memory ≡ length memory₀) × (length block ≡ length block₀) × (length reply ≡ length reply₀)

@@ -1,9 +1,9 @@
--- `check_job::trial::first_written` is safe and ends. Assumes nothing.
+-- `advice::trial::first_written` is safe and ends. Assumes nothing.
 use borrow.Author.Needs.{needs}
 use lib.ListN.{length}
 use Prim.Native.Nat.{_-_, _≤_}
-use Rattle.check_job.proofs.trial.first_written.Statement.{statement}
-use Rattle.check_job.proofs.trial.first_written.Tie as tie
+use Rattle.advice.proofs.trial.first_written.Statement.{statement}
+use Rattle.advice.proofs.trial.first_written.Tie as tie
 
 abbrev Inv-loop : tie.InvT-loop
 Inv-loop memory from word i₀ i = from ≤ i

@@ -1,13 +1,19 @@
-// A verdict in words.
-use crate::ends;
-use crate::ends::Altered;
-use crate::event;
-use crate::flash;
-use crate::flash::Found;
-use crate::refused;
-use crate::say;
-use crate::trial;
+// A verdict in words, on standard error: why it is so, and what to do.
+mod deed;
+mod ends;
+mod event;
+mod flash;
+mod form;
+mod place;
+mod refused;
+mod say;
+mod trial;
+
+ghost use mathlib.Core.Path.{_≡_};
+ghost use Rattle.advice.specs.Room.{toldAtOnce, roomOf};
 use board::Board;
+use ends::Altered;
+use flash::Found;
 use verdict::Verdict;
 
 // The event that fails, and the board before it.
@@ -83,17 +89,23 @@ fn rejected(verdict: Verdict, packed: &[u8], image: &[u8], card: &[u8]) {
 }
 
 // Says a verdict that needs no board, and whether it is one.
-fn is_told(verdict: Verdict, image: usize, card: usize) -> bool {
+fn is_told(verdict: Verdict, image: usize, card: usize) -> bool
+    ensures { λ r. ⌜ r ≡ toldAtOnce verdict ⌝ }
+{
     match verdict {
         Verdict::Pass => refused::passed(image),
         Verdict::Refused(why) => refused::explain(why, image, card),
-        _ => false,
+        Verdict::Event(_) => false,
+        Verdict::End(_) => false,
+        Verdict::Flash(_) => false,
     }
 }
 
 // Says a verdict to people. `room` is the checker's work area, which it needs no more: a packed job has half the bytes
 // of its text at most, and so has room there. Only boards that live through the job tell why it is rejected.
-pub(crate) fn explain(verdict: Verdict, job: &[u8], image: &[u8], card: &[u8], room: &mut [u8]) {
+pub fn explain(verdict: Verdict, job: &[u8], image: &[u8], card: &[u8], room: &mut [u8])
+    ensures { λ _. ⌜ now (room .exit) ≡ roomOf verdict (now (job .entry)) (now (room .entry)) ⌝ }
+{
     if is_told(verdict, image.len(), card.len()) {
         return;
     }
