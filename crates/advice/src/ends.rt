@@ -2,9 +2,9 @@
 use crate::deed;
 use crate::place;
 use crate::say;
-use crate::trial::Scene;
 use device::Device;
 use mode::Mode;
+use trial::Scene;
 
 // The first option byte that is not the card's: its number, its value on the board and on the card, the last line that
 // changed it, and whether the card is read-protected.

@@ -3,7 +3,6 @@ use crate::deed;
 use crate::form;
 use crate::place;
 use crate::say;
-use crate::trial::Scene;
 use board::Board;
 use board::Place;
 use device::Device;
@@ -12,6 +11,7 @@ use mode::Mode;
 use player::Asked;
 use request::Request;
 use request::Setup;
+use trial::Scene;
 
 // Reasons have numbers, up to 9 as the sentence in `tell` counts them. These have sentences of their own: flash that is
 // not erased, a setup that has not the form of a request, and, from the third on, requests that the mode does not take.

@@ -7,7 +7,6 @@ mod form;
 mod place;
 mod refused;
 mod say;
-mod trial;
 
 ghost use mathlib.Core.Path.{_≡_};
 ghost use Rattle.advice.specs.Room.{toldAtOnce, roomOf};
@@ -16,9 +15,17 @@ use ends::Altered;
 use flash::Found;
 use verdict::Verdict;
 
+// How many events come before the one in this line.
+fn before(line: usize) -> usize {
+    if line == 0 {
+        return 0;
+    }
+    line - 1
+}
+
 // The event that fails, and the board before it.
 fn failed(line: usize, packed: &[u8], card: &[u8]) {
-    let scene = trial::run(packed, trial::before(line), card, 0, 0);
+    let scene = trial::run(packed, before(line), card, 0, 0);
     let at = say::least(scene.at, packed.len());
     event::explain(line, scene, player::asks(&packed[at..]));
 }
@@ -30,7 +37,7 @@ fn ended(condition: u8, packed: &[u8], card: &[u8]) {
     let number = say::least(scene.altered, trial::OPTIONS);
     let place = trial::OPTIONS_AT + number;
     let option = trial::run(packed, all, card, 0, place);
-    let cause = trial::run(packed, trial::before(option.changed), card, 0, place);
+    let cause = trial::run(packed, before(option.changed), card, 0, place);
     let found = Altered {
         number,
         byte: option.byte,
@@ -63,9 +70,9 @@ fn differs(offset: usize, packed: &[u8], image: &[u8], card: &[u8]) {
         0,
         trial::OPTIONS_AT + flash::option_of(page),
     );
-    let last = trial::run(packed, trial::before(zero.changed), card, 0, offset);
+    let last = trial::run(packed, before(zero.changed), card, 0, offset);
     let line = flash::doer(side, zero.changed, zero.earlier, last.device);
-    let cause = trial::run(packed, trial::before(line), card, 0, offset);
+    let cause = trial::run(packed, before(line), card, 0, offset);
     let found = Found {
         offset,
         side,

@@ -1,24 +1,29 @@
-// A single board that lives through a job.
+// A single board that lives through a job, for the programs that explain a verdict.
 //
 // Where an event fails on some board, it fails on the one whose flash and RAM are all zero, and no event before it
 // does: this is the board by which the checker's proof shows that a rejected job is rightly rejected. Whatever a job
 // does to a byte of flash changes it there, for it erases it first.
-use crate::say;
+ghost use mathlib.Core.Path.{_≡_};
+ghost use mathlib.Core.Bool.{cond};
+ghost use Prim.Native.Nat.{_-_, _≤_};
+ghost use lib.ListN.{length, getD};
+ghost use Rattle.board.specs.Layout.{loggerPages, memoryBytes};
+ghost use Rattle.trial.specs.Trial.{leavingOf, fresh, nextOf, life, turnOf, livesOf, firstWritten, targetOf, surveyed, equipped, runOf};
 use board::Board;
 use device::Device;
 use device::Pending;
 use mode::Mode;
 use request::Setup;
 
-pub const FLASH: usize = Board::LOGGER.pages as usize * Board::PAGE;
+const FLASH: usize = Board::LOGGER.pages as usize * Board::PAGE;
 
 pub const OPTIONS_AT: usize = FLASH + Board::RAM_BYTES;
 
-pub const MEMORY: usize = OPTIONS_AT + OPTIONS;
+const MEMORY: usize = OPTIONS_AT + OPTIONS;
 
 pub const OPTIONS: usize = Board::OPTION_BYTES;
 
-pub const TRANSFER: usize = Setup::TRANSFER as usize;
+const TRANSFER: usize = Setup::TRANSFER as usize;
 
 // The board after `count` events, the next of which is at place `at` of the packed job. An event's number is the number
 // of its line, and 0 stands for no line.
@@ -41,19 +46,11 @@ pub struct Scene {
     pub altered: usize,
 }
 
-// How many events come before the one in this line.
-pub(crate) fn before(line: usize) -> usize {
-    if line == 0 {
-        return 0;
-    }
-    line - 1
-}
-
 // A board whose flash and RAM are all `old`, with the options of the card.
-fn equip(memory: &mut [u8], old: u8, card: &[u8]) {
-    if memory.len() != MEMORY {
-        return;
-    }
+fn equip(memory: &mut [u8], old: u8, card: &[u8])
+    requires { ⌜ length (now memory) ≡ memoryBytes loggerPages ⌝ }
+    ensures { λ _. ⌜ now (memory .exit) ≡ equipped old (now (card .entry)) (now (memory .entry)) ⌝ }
+{
     if card.len() != OPTIONS {
         return;
     }
@@ -61,20 +58,33 @@ fn equip(memory: &mut [u8], old: u8, card: &[u8]) {
     buffer::put(memory, OPTIONS_AT, card);
 }
 
-fn leaving(mode: Mode) -> usize {
+// 1 where the loader is about to leave, or has left.
+fn leaving(mode: Mode) -> usize
+    ensures { λ r. ⌜ r ≡ leavingOf mode ⌝ }
+{
     match mode {
+        Mode::Idle => 0,
+        Mode::DownloadSync => 0,
+        Mode::DownloadBusy => 0,
+        Mode::DownloadIdle => 0,
         Mode::ManifestSync => 1,
+        Mode::UploadIdle => 0,
+        Mode::Error => 0,
         Mode::Left => 1,
-        _ => 0,
+        Mode::Rebooting => 0,
     }
 }
 
-fn latest(is_same: bool, last: usize, line: usize) -> usize {
+fn latest(is_same: bool, last: usize, line: usize) -> usize
+    ensures { λ r. ⌜ r ≡ cond «is_same» last line ⌝ }
+{
     if is_same { last } else { line }
 }
 
 // Nothing has happened yet.
-fn first(byte: u8) -> Scene {
+fn first(byte: u8) -> Scene
+    ensures { λ r. ⌜ r ≡ fresh byte ⌝ }
+{
     Scene {
         device: Device::START,
         count: 0,
@@ -91,7 +101,9 @@ fn first(byte: u8) -> Scene {
 }
 
 // The event in this line, up to place `at` of the job, leaves the device and the byte so.
-fn next(scene: Scene, line: usize, at: usize, device: Device, byte: u8) -> Scene {
+fn next(scene: Scene, line: usize, at: usize, device: Device, byte: u8) -> Scene
+    ensures { λ r. ⌜ r ≡ nextOf scene line at device byte ⌝ }
+{
     let before = scene.device;
     let was = before.mode;
     let is = device.mode;
@@ -118,34 +130,44 @@ fn turn(
     memory: &mut [u8],
     block: &mut [u8],
     reply: &mut [u8],
-) -> Scene {
-    let at = say::least(scene.at, packed.len());
+) -> Scene
+    requires { ⌜ scene .at ≤ length (now packed) ⌝ }
+    ensures { λ r. ⌜ (life r (now (memory .exit)) (now (block .exit)) (now (reply .exit)) ≡ turnOf (now (packed .entry)) place line (life scene (now (memory .entry)) (now (block .entry)) (now (reply .entry)))) × (r .at ≤ length (now (packed .entry))) ⌝ }
+{
+    let at = scene.at;
     let end = at + job::piece_length(&packed[at..]);
     let stepped = player::step(scene.device, &packed[at..end], memory, block, reply);
-    next(
-        scene,
-        line,
-        end,
-        stepped.device,
-        buffer::byte_at(memory, place),
-    )
+    let byte = buffer::byte_at(memory, place);
+    next(scene, line, end, stepped.device, byte)
 }
 
 // The first `events` events of a job, or all where there are not so many, on the board with this memory.
-fn live(packed: &[u8], events: usize, place: usize, memory: &mut [u8]) -> Scene {
-    let mut block = [0u8; TRANSFER];
-    let mut reply = [0u8; TRANSFER];
+fn live(
+    packed: &[u8],
+    events: usize,
+    place: usize,
+    memory: &mut [u8],
+    block: &mut [u8],
+    reply: &mut [u8],
+) -> Scene
+    ensures { λ r. ⌜ life r (now (memory .exit)) (now (block .exit)) (now (reply .exit)) ≡ livesOf (now (packed .entry)) place events 0 (life (fresh (getD (now (memory .entry)) place 0)) (now (memory .entry)) (now (block .entry)) (now (reply .entry))) ⌝ }
+{
     let mut scene = first(buffer::byte_at(memory, place));
     let mut count = 0;
-    while count < events && scene.at < packed.len() {
+    while count < events {
+        if packed.len() <= scene.at {
+            return scene;
+        }
         count += 1;
-        scene = turn(scene, count, packed, place, memory, &mut block, &mut reply);
+        scene = turn(scene, count, packed, place, memory, block, reply);
     }
     scene
 }
 
 // The first place from `from` on whose byte is not erased, outside write-protected pages.
-fn first_written(memory: &[u8], from: usize) -> usize {
+fn first_written(memory: &[u8], from: usize) -> usize
+    ensures { λ r. ⌜ r ≡ firstWritten (now (memory .entry)) (length (now (memory .entry)) - from) from ⌝ }
+{
     let word = Board::LOGGER.protection_word(memory);
     let mut i = from;
     while i < memory.len() {
@@ -157,43 +179,46 @@ fn first_written(memory: &[u8], from: usize) -> usize {
     i
 }
 
-// The first option byte in which board and card differ, or 16.
-fn first_changed(memory: &[u8], card: &[u8]) -> usize {
-    let mut i = 0;
-    while i < OPTIONS {
-        if buffer::byte_at(memory, OPTIONS_AT + i) != buffer::byte_at(card, i) {
-            return i;
-        }
-        i += 1;
-    }
-    i
-}
-
 // The place in flash where the write that waits begins, if it is one into flash.
-fn target(pointer: u32, pending: Pending) -> usize {
+fn aim(pointer: u32, pending: Pending) -> usize
+    ensures { λ r. ⌜ r ≡ targetOf pointer pending ⌝ }
+{
     match pending {
-        Pending::Write { block, count } => (action::block_address(block, count, pointer)
-            % Board::FLASH as u64) as usize,
-        _ => 0,
+        Pending::Nothing => 0,
+        Pending::SetPointer(_) => 0,
+        Pending::ErasePage(_) => 0,
+        Pending::MassErase => 0,
+        Pending::ReadUnprotect => 0,
+        Pending::Write { block, count } => {
+            (action::block_address(block, count, pointer) % Board::FLASH as u64) as usize
+        }
     }
 }
 
 // What the memory is like then.
-fn survey(scene: Scene, memory: &[u8], card: &[u8]) -> Scene {
+fn survey(scene: Scene, memory: &[u8], card: &[u8]) -> Scene
+    requires { ⌜ length (now memory) ≡ memoryBytes loggerPages ⌝ }
+    ensures { λ r. ⌜ r ≡ surveyed scene (now (memory .entry)) (now (card .entry)) ⌝ }
+{
     let device = scene.device;
     let pending = device.pending;
+    let from = aim(device.pointer, pending);
     Scene {
         is_protected: Board::LOGGER.read_protected(memory),
-        dirt: first_written(memory, target(device.pointer, pending)),
-        altered: first_changed(memory, card),
+        dirt: first_written(memory, from),
+        altered: player::first_change(&memory[OPTIONS_AT..], card, 0, OPTIONS),
         ..scene
     }
 }
 
 // The first `events` events of a job on a board with this card, whose flash and RAM were all `old`.
-pub(crate) fn run(packed: &[u8], events: usize, card: &[u8], old: u8, place: usize) -> Scene {
+pub fn run(packed: &[u8], events: usize, card: &[u8], old: u8, place: usize) -> Scene
+    ensures { λ r. ⌜ r ≡ runOf (now (packed .entry)) events (now (card .entry)) old place ⌝ }
+{
     let mut memory = [0u8; MEMORY];
+    let mut block = [0u8; TRANSFER];
+    let mut reply = [0u8; TRANSFER];
     equip(&mut memory, old, card);
-    let scene = live(packed, events, place, &mut memory);
+    let scene = live(packed, events, place, &mut memory, &mut block, &mut reply);
     survey(scene, &memory, card)
 }

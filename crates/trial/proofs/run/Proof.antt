@@ -1,0 +1,49 @@
+-- `trial::run` meets its contract. Assumes nothing.
+use Rattle.trial.proofs.Turns.{run-is}
+use borrow.Author.Needs.{needs}
+use Rattle.trial.proofs.run.Statement.{statement}
+use Rattle.trial.proofs.run.Tie as tie
+
+slice-aggregate-equip : tie.Need-slice-aggregate-equip
+slice-aggregate-equip c = search needs
+
+equip-requires : tie.Need-equip-requires
+equip-requires c κs = search needs
+
+slice-aggregate-live : tie.Need-slice-aggregate-live
+slice-aggregate-live c = search needs
+
+slice-aggregate-live-2 : tie.Need-slice-aggregate-live-2
+slice-aggregate-live-2 c = search needs
+
+slice-aggregate-live-3 : tie.Need-slice-aggregate-live-3
+slice-aggregate-live-3 c = search needs
+
+live-requires : tie.Need-live-requires
+live-requires c κs = search needs
+
+slice-aggregate-survey : tie.Need-slice-aggregate-survey
+slice-aggregate-survey c = search needs
+
+survey-requires : tie.Need-survey-requires
+survey-requires c κs = search needs
+
+returns : tie.Need-returns
+returns c =
+    let l = c .before .before .before .before .before in
+    let e = l .before .before .before .before .before in
+    run-is _ _ _ _ _ _ _ _ _ _ _ (e .equip .ensures) (l .live .ensures) (c .survey .ensures)
+
+pub run-spec : {M : Type 1} → statement M
+run-spec =
+    tie.close
+    (tie.spec
+    slice-aggregate-equip
+    equip-requires
+    slice-aggregate-live
+    slice-aggregate-live-2
+    slice-aggregate-live-3
+    live-requires
+    slice-aggregate-survey
+    survey-requires
+    returns)

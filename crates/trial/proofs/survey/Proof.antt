@@ -1,0 +1,44 @@
+-- `trial::survey` meets its contract. Assumes nothing.
+use Rattle.trial.proofs.Turns.{survey-is}
+use borrow.Author.Needs.{needs}
+use Rattle.trial.proofs.survey.Statement.{statement}
+use Rattle.trial.proofs.survey.Tie as tie
+
+aim-requires : tie.Need-aim-requires
+aim-requires c κs = search needs
+
+read-protected-requires : tie.Need-read-protected-requires
+read-protected-requires c κs = search needs
+
+first-written-requires : tie.Need-first-written-requires
+first-written-requires c κs = search needs
+
+sub-first-change : tie.Need-sub-first-change
+sub-first-change c = search needs
+
+part-first-change-start : tie.Need-part-first-change-start
+part-first-change-start c = search needs
+
+part-first-change-end : tie.Need-part-first-change-end
+part-first-change-end c = search needs
+
+first-change-requires : tie.Need-first-change-requires
+first-change-requires c κs = search needs
+
+returns : tie.Need-returns
+returns c =
+    let t = c .before .before .before .before .before in
+    survey-is _ _ _ (t .aim .result) _ _ _ (t .aim .ensures) (c .before .before .before .before .read-protected .ensures) (c .before .before .before .first-written .ensures) (c .before .first-change .ensures .0)
+
+pub survey-spec : {M : Type 1} → statement M
+survey-spec =
+    tie.close
+    (tie.spec
+    aim-requires
+    read-protected-requires
+    first-written-requires
+    sub-first-change
+    part-first-change-start
+    part-first-change-end
+    first-change-requires
+    returns)
