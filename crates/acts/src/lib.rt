@@ -1,5 +1,4 @@
-// The work area: what is known of every board at once, a value and a mark for each byte of memory, and the block
-// that waits to be written; and what each action does to it.
+// What each action does to the work area, that is, on every board at once.
 ghost use mathlib.Core.Path.{_≡_};
 ghost use mathlib.Core.Bool.{not, _&&_};
 ghost use lib.Dec.{leb};

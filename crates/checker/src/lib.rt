@@ -1,4 +1,4 @@
-// The job checker: it walks a job's text over the work area of `area`, event by event, and looks at the end.
+// The job checker: it walks a job's text over the work area, event by event, and looks at the end.
 ghost use mathlib.Core.Path.{_≡_};
 ghost use mathlib.Core.Bool.{true, false, not, _&&_};
 ghost use lib.Dec.{eqb};
