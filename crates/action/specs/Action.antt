@@ -8,14 +8,14 @@ use Rattle.board.specs.Span.{placeOf}
 use Rattle.device.specs.declared.Pending.{Pending}
 use Rattle.device.specs.declared.Pending.the-variants.{Nothing, SetPointer, ErasePage, MassErase, ReadUnprotect, Write}
 use Rattle.device.specs.declared.Device.{Device}
-use Rattle.action.specs.declared.Access.{Access}
-use Rattle.action.specs.declared.Access.the-variants.{Denied, InFlash, InRam, InOptions}
+use Rattle.access.specs.declared.Access.{Access}
+use Rattle.access.specs.declared.Access.the-variants.{Denied, InFlash, InRam, InOptions}
 use Rattle.action.specs.declared.Action.{Action}
 use Rattle.action.specs.declared.Action.the-variants.{Rest, Fail, Point, Erase, EraseAll, Unprotect, ClearRam, StoreFlash, StoreRam, StoreOptions}
 use Rattle.device.specs.declared.Ran.{Ran}
 use Rattle.mode.specs.Wire.{errTARGET, errVENDOR}
 use Rattle.device.specs.WellFormed.{inRegion}
-use Rattle.action.specs.Access.{blockAccess}
+use Rattle.access.specs.Access.{blockAccess}
 
 -- "Set pointer: outside every region is 1; read protection does not matter"
 abbrev pub pointOf : ℕ → ℕ → Action

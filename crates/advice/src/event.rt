@@ -42,7 +42,7 @@ fn untimely(request: Request, mode: Mode) -> usize {
 
 // A read or a write of a block.
 fn moved(pointer: u32, block: u16, count: u16, is_protected: bool) -> usize {
-    let from = action::block_address(block, count, pointer);
+    let from = access::block_address(block, count, pointer);
     let place = Board::LOGGER.place(from, count as u64);
     if is_protected {
         return 4;

@@ -14,9 +14,9 @@ use Rattle.device.specs.declared.Device.{Device}
 use Rattle.device.specs.declared.Ran.{Ran}
 use Rattle.mode.specs.Wire.{wireOf}
 use Rattle.device.specs.State.{nothingRan}
-use Rattle.action.specs.declared.Access.{Access}
+use Rattle.access.specs.declared.Access.{Access}
 use Rattle.action.specs.declared.Action.{Action}
-use Rattle.action.specs.Access.{blockAccess}
+use Rattle.access.specs.Access.{blockAccess}
 use Rattle.action.specs.Action.{actionOf, ranOf}
 use Rattle.decision.specs.declared.Command.{Command}
 use Rattle.decision.specs.declared.Decision.{Decision}

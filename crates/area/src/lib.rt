@@ -12,7 +12,7 @@ ghost use Rattle.hex.specs.Hex.{allDigits, bytesOf};
 ghost use Rattle.area.specs.Moved.{movedAs};
 ghost use Rattle.verdict.specs.Checked.{workBytes};
 ghost use Rattle.cells.specs.Cells.{reports, statusMoves, readsMoves, requestMoves, begun};
-use action::Access;
+use access::Access;
 use board::Board;
 use decision::Command;
 use decision::Decision;
@@ -77,7 +77,7 @@ fn upload(board: Board, device: Device, setup: Setup, work: &[u8]) -> Step
 {
     let protected = board.read_protected(work);
     let count = setup.length;
-    let access = action::examine_block(board, protected, setup.value, count, device.pointer);
+    let access = access::examine_block(board, protected, setup.value, count, device.pointer);
     match access {
         Access::Denied(_) => falling(device),
         Access::InFlash(_) => going(device.enter(Mode::UploadIdle)),

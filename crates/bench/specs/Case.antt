@@ -13,7 +13,7 @@ use Rattle.mode.specs.Table.{allowedOf}
 use Rattle.device.specs.State.{started, afterStatus, reportOf}
 use Rattle.device.specs.WellFormed.{inRegion, wellFormed}
 use Rattle.decision.specs.Decide.{commandOf, commandedOf, downloadOf, decideOf}
-use Rattle.action.specs.Access.{blockAddress, accessOf, blockAccess}
+use Rattle.access.specs.Access.{blockAddress, accessOf, blockAccess}
 use Rattle.action.specs.Action.{actionOf}
 use Rattle.memory.specs.Flash.{each, blank, laid, stored, erased}
 use Rattle.loader.specs.declared.Event.the-variants as event

@@ -31,9 +31,9 @@ use Rattle.decision.specs.declared.Decision.{Decision}
 use Rattle.decision.specs.declared.Decision.the-variants as decided
 use Rattle.decision.specs.Decide.{commandOf, decideOf, waiting}
 use Rattle.decision.proofs.Cases.{decide-case}
-use Rattle.action.specs.declared.Access.{Access}
-use Rattle.action.specs.declared.Access.the-variants.{Denied, InFlash, InRam, InOptions}
-use Rattle.action.specs.Access.{blockAccess}
+use Rattle.access.specs.declared.Access.{Access}
+use Rattle.access.specs.declared.Access.the-variants.{Denied, InFlash, InRam, InOptions}
+use Rattle.access.specs.Access.{blockAccess}
 use Rattle.loader.specs.declared.Event.the-variants as event
 use Rattle.loader.specs.declared.Answer.the-variants.{Accepted}
 use Rattle.loader.specs.Answer.{Outcome, outcome}

@@ -22,9 +22,9 @@ use Rattle.device.specs.State.{afterStatus, reportOf, nothingRan}
 use Rattle.device.specs.WellFormed.{inRegion}
 use Rattle.device.proofs.Form.{Form, well-formed}
 use Rattle.action.specs.declared.Action.{Action}
-use Rattle.action.specs.declared.Access.{Access}
-use Rattle.action.specs.declared.Access.the-variants.{Denied, InFlash, InRam, InOptions}
-use Rattle.action.specs.Access.{blockAccess}
+use Rattle.access.specs.declared.Access.{Access}
+use Rattle.access.specs.declared.Access.the-variants.{Denied, InFlash, InRam, InOptions}
+use Rattle.access.specs.Access.{blockAccess}
 use Rattle.action.specs.Action.{storeAt, eraseAt, actionIn, actionOf, ranOf}
 use Rattle.loader.specs.Inner.{countOf}
 use Rattle.loader.specs.Perform.{performedOf}

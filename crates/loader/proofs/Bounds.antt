@@ -21,12 +21,12 @@ use Rattle.device.specs.declared.Pending.the-variants.{Nothing, SetPointer, Era
 use Rattle.device.specs.declared.Device.{Device}
 use Rattle.mode.specs.Wire.{isMode}
 use Rattle.device.specs.WellFormed.{inRegion, writeFits, pendingFits, statusFits, wellFormed}
-use Rattle.action.specs.declared.Access.{Access}
-use Rattle.action.specs.declared.Access.the-variants.{Denied, InFlash, InRam, InOptions}
+use Rattle.access.specs.declared.Access.{Access}
+use Rattle.access.specs.declared.Access.the-variants.{Denied, InFlash, InRam, InOptions}
 use Rattle.action.specs.declared.Action.{Action}
-use Rattle.action.specs.Access.{blockAccess}
+use Rattle.access.specs.Access.{blockAccess}
 use Rattle.action.specs.Action.{pointOf, eraseAt, eraseOf, storeAt, actionIn, actionOf}
-use Rattle.action.proofs.Spans.{Granted, block-granted}
+use Rattle.access.proofs.Spans.{Granted, block-granted}
 use Rattle.loader.specs.Inner.{endOf, countOf}
 
 -- an action that ends within memory and takes no more than a transfer

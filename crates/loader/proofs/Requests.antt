@@ -22,11 +22,11 @@ use Rattle.decision.specs.declared.Decision.{Decision}
 use Rattle.decision.specs.declared.Decision.the-variants.{Read}
 use Rattle.decision.specs.Decide.{commandOf, decideOf}
 use Rattle.decision.proofs.Bounds.{Bounded, decide-bounded}
-use Rattle.action.specs.declared.Access.{Access}
+use Rattle.access.specs.declared.Access.{Access}
 use Rattle.action.specs.declared.Action.{Action}
-use Rattle.action.specs.Access.{blockAccess}
+use Rattle.access.specs.Access.{blockAccess}
 use Rattle.action.specs.Action.{actionOf, ranOf}
-use Rattle.action.proofs.Spans.{Granted, block-granted}
+use Rattle.access.proofs.Spans.{Granted, block-granted}
 use Rattle.loader.specs.declared.Answer.the-variants.{Reply}
 use Rattle.loader.specs.Answer.{outcome}
 use Rattle.loader.specs.Perform.{Performed, performed, performedOf}

@@ -17,10 +17,10 @@ use Rattle.device.specs.State.{entered, stalled, afterStatus, reportOf, nothing
 use Rattle.decision.specs.declared.Decision.{Decision}
 use Rattle.decision.specs.declared.Decision.the-variants as decided
 use Rattle.decision.specs.Decide.{commandOf, decideOf}
-use Rattle.action.specs.declared.Access.{Access}
-use Rattle.action.specs.declared.Access.the-variants.{Denied, InFlash, InRam, InOptions}
+use Rattle.access.specs.declared.Access.{Access}
+use Rattle.access.specs.declared.Access.the-variants.{Denied, InFlash, InRam, InOptions}
 use Rattle.action.specs.declared.Action.{Action}
-use Rattle.action.specs.Access.{blockAccess}
+use Rattle.access.specs.Access.{blockAccess}
 use Rattle.action.specs.Action.{actionOf, ranOf}
 use Rattle.loader.specs.declared.Answer.the-variants.{Accepted, Reply, Stall, Silent}
 use Rattle.loader.specs.Answer.{Outcome, outcome}

@@ -16,7 +16,7 @@ ghost use Rattle.loader.specs.Inner.{endOf, countOf, InOrder};
 ghost use Rattle.loader.specs.Perform.{performed, performedOf, writtenOf};
 ghost use Rattle.loader.specs.Serve.{run, runOf, statusBytes, statusOf, pollOf, uploadedOf, sentOf, serveOf, commandCodes};
 ghost use Rattle.loader.specs.Step.{misfits, admittedOf, stepOf};
-use action::Access;
+use access::Access;
 use action::Action;
 use board::Board;
 use decision::Command;
@@ -174,7 +174,7 @@ fn upload(board: Board, device: Device, setup: Setup, memory: &[u8], reply: &mut
 {
     let protected = board.read_protected(memory);
     let count = setup.length;
-    let access = action::examine_block(board, protected, setup.value, count, device.pointer);
+    let access = access::examine_block(board, protected, setup.value, count, device.pointer);
     match access {
         Access::Denied(status) => answered(device.stall(status), Answer::Stall),
         Access::InFlash(at) => send(device, memory, at, count, reply),

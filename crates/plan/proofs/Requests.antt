@@ -28,7 +28,7 @@ use Rattle.device.specs.State.{afterStatus, reportOf}
 use Rattle.decision.specs.Decide.{commandOf, commandedOf, downloadOf, decideOf}
 use Rattle.action.specs.declared.Action.{Action}
 use Rattle.action.specs.declared.Action.the-variants.{Point, Erase, StoreFlash}
-use Rattle.action.specs.Access.{accessOf, blockAddress, blockAccess}
+use Rattle.access.specs.Access.{accessOf, blockAddress, blockAccess}
 use Rattle.action.specs.Action.{actionIn, actionOf, movedOf, rebootsOf}
 use Rattle.memory.specs.Flash.{stored}
 use Rattle.text.specs.Event.{Event}

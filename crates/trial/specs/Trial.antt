@@ -14,7 +14,7 @@ use Rattle.device.specs.declared.Pending.{Pending}
 use Rattle.device.specs.declared.Pending.the-variants.{Nothing, SetPointer, ErasePage, MassErase, ReadUnprotect, Write}
 use Rattle.device.specs.declared.Device.{Device}
 use Rattle.device.specs.State.{started}
-use Rattle.action.specs.Access.{blockAddress}
+use Rattle.access.specs.Access.{blockAddress}
 use Rattle.loader.specs.Answer.{Outcome}
 use Rattle.job.specs.Ways.{pieceLength}
 use Rattle.player.specs.Played.{playedOf}

@@ -190,7 +190,7 @@ fn aim(pointer: u32, pending: Pending) -> usize
         Pending::MassErase => 0,
         Pending::ReadUnprotect => 0,
         Pending::Write { block, count } => {
-            (action::block_address(block, count, pointer) % Board::FLASH as u64) as usize
+            (access::block_address(block, count, pointer) % Board::FLASH as u64) as usize
         }
     }
 }

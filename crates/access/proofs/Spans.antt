@@ -8,9 +8,9 @@ use Rattle.board.specs.declared.Place.the-variants.{Flash, Ram, Options, Outsid
 use Rattle.board.specs.Layout.{flashBytes, ramFrom, optionsFrom, optionBytes, memoryBytes}
 use Rattle.board.specs.Span.{placeOf}
 use Rattle.board.proofs.Span.{Lies, place-lies}
-use Rattle.action.specs.declared.Access.{Access}
-use Rattle.action.specs.declared.Access.the-variants.{Denied, InFlash, InRam, InOptions}
-use Rattle.action.specs.Access.{blockAddress, checkedOf, accessOf, blockAccess}
+use Rattle.access.specs.declared.Access.{Access}
+use Rattle.access.specs.declared.Access.the-variants.{Denied, InFlash, InRam, InOptions}
+use Rattle.access.specs.Access.{blockAddress, checkedOf, accessOf, blockAccess}
 
 abbrev pub Granted : ℕ → ℕ → Access → Type 0
 Granted n count (Denied status) = T true

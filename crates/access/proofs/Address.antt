@@ -3,7 +3,7 @@ use mathlib.Core.Path.{_≡_}
 use Prim.Native.Nat.{ℕ, _-_, _*_, _≤_, _<_}
 use native.Mathlib.Omega.{arith}
 use native.Mathlib.Nat.{mul-le-mul, zero-mul, zero-add}
-use Rattle.action.specs.Access.{blockAddress}
+use Rattle.access.specs.Access.{blockAddress}
 
 pub address-low : (block count pointer : ℕ) → block < 2 → blockAddress block count pointer ≡ pointer
 unfolding blockAddress

@@ -6,8 +6,8 @@ use Rattle.board.specs.declared.Place.{Place}
 use Rattle.board.specs.declared.Place.the-variants.{Flash, Ram, Options, Outside}
 use Rattle.board.specs.Layout.{optionsFrom, optionBytes}
 use Rattle.board.specs.Span.{placeOf}
-use Rattle.action.specs.declared.Access.{Access}
-use Rattle.action.specs.declared.Access.the-variants.{Denied, InFlash, InRam, InOptions}
+use Rattle.access.specs.declared.Access.{Access}
+use Rattle.access.specs.declared.Access.the-variants.{Denied, InFlash, InRam, InOptions}
 use Rattle.mode.specs.Wire.{errTARGET, errVENDOR}
 
 -- "(wValue - 2) x wLength of this request + pointer"; reads and writes share it

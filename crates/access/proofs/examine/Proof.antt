@@ -1,9 +1,9 @@
--- `action::examine` meets its contract. Assumes nothing.
-use Rattle.action.specs.Access.{accessOf}
+-- `access::examine` meets its contract. Assumes nothing.
+use Rattle.access.specs.Access.{accessOf}
 use mathlib.Core.Path.{_∙_, sym}
 use borrow.Author.Needs.{needs}
-use Rattle.action.proofs.examine.Statement.{statement}
-use Rattle.action.proofs.examine.Tie as tie
+use Rattle.access.proofs.examine.Statement.{statement}
+use Rattle.access.proofs.examine.Tie as tie
 
 returns : tie.Need-returns
 unfolding accessOf

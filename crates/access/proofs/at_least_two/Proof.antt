@@ -1,7 +1,7 @@
--- `action::at_least_two` meets its contract. Assumes nothing.
+-- `access::at_least_two` meets its contract. Assumes nothing.
 use borrow.Author.Tests.{lt-ltb, le-ltb}
-use Rattle.action.proofs.at_least_two.Statement.{statement}
-use Rattle.action.proofs.at_least_two.Tie as tie
+use Rattle.access.proofs.at_least_two.Statement.{statement}
+use Rattle.access.proofs.at_least_two.Tie as tie
 
 returns : tie.Need-returns
 returns c = simp (lt-ltb _ _ (c .if1 .taken))

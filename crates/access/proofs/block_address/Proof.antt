@@ -1,11 +1,11 @@
--- `action::block_address` meets its contract. Assumes nothing.
-use Rattle.action.proofs.Address.{address-low, offset-small}
-use Rattle.action.specs.Access.{blockAddress}
+-- `access::block_address` meets its contract. Assumes nothing.
+use Rattle.access.proofs.Address.{address-low, offset-small}
+use Rattle.access.specs.Access.{blockAddress}
 use native.Mathlib.Omega.{arith}
 use mathlib.Core.Path.{sym, refl}
 use borrow.Author.Needs.{needs}
-use Rattle.action.proofs.block_address.Statement.{statement}
-use Rattle.action.proofs.block_address.Tie as tie
+use Rattle.access.proofs.block_address.Statement.{statement}
+use Rattle.access.proofs.block_address.Tie as tie
 
 returns : tie.Need-returns
 returns c = sym (address-low _ _ _ (c .if1 .taken))

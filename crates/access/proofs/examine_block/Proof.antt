@@ -1,8 +1,8 @@
--- `action::examine_block` meets its contract. Assumes nothing.
-use Rattle.action.specs.Access.{blockAccess}
+-- `access::examine_block` meets its contract. Assumes nothing.
+use Rattle.access.specs.Access.{blockAccess}
 use borrow.Author.Needs.{needs}
-use Rattle.action.proofs.examine_block.Statement.{statement}
-use Rattle.action.proofs.examine_block.Tie as tie
+use Rattle.access.proofs.examine_block.Statement.{statement}
+use Rattle.access.proofs.examine_block.Tie as tie
 
 block-address-requires : tie.Need-block-address-requires
 block-address-requires c κs = search needs

@@ -1,9 +1,9 @@
--- `action::all_options` meets its contract. Assumes nothing.
+-- `access::all_options` meets its contract. Assumes nothing.
 use borrow.Author.Tests.{eq-eqb, ne-eqb}
 use mathlib.Core.Path.{_∙_, sym}
 use borrow.Author.Needs.{needs}
-use Rattle.action.proofs.all_options.Statement.{statement}
-use Rattle.action.proofs.all_options.Tie as tie
+use Rattle.access.proofs.all_options.Statement.{statement}
+use Rattle.access.proofs.all_options.Tie as tie
 
 options-from-requires : tie.Need-options-from-requires
 options-from-requires c κs = search needs
