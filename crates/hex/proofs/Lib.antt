@@ -1,3 +1,2 @@
 pub mod OneDigit
 pub mod Fields
-pub mod Wide

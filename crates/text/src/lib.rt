@@ -51,8 +51,8 @@ fn setup(field: &[u8]) -> Setup
     requires { ⌜ (length (now field) ≡ 16) × (allDigits (now field) ≡ true) ⌝ }
     ensures { λ r. ⌜ r ≡ setupOf (bytesOf (now (field .entry))) ⌝ }
 {
-    let front = hex::four(&field[0..8]);
-    let back = hex::four(&field[8..16]);
+    let front = wide::four(&field[0..8]);
+    let back = wide::four(&field[8..16]);
     let bytes = [
         front[0],
         front[1],

@@ -9,10 +9,10 @@ use lib.ListN.{length, drop, getD, drop-of-length-le}
 use lib.Seq.{drop-cons}
 use lib.Pow.{pow-pos, pow-mono, split, shr-shr, mod-mod-pow, ones-lt}
 use lib.Bits.{bitAnd, and-block, and-mask}
-use Rattle.hex.specs.Ways.{joinedOf}
+use Rattle.wide.specs.Wide.{joinedOf}
 use Rattle.hex.specs.Hex.{valueOf, byteOf, allDigits, bytesOf}
 use Rattle.hex.proofs.OneDigit.{half-value}
 use Rattle.hex.proofs.Fields.{digits-cons}
 
 -- the number of a field from place i on: its lowest byte, and the others
 number-from : (ds : List ℕ) (i : ℕ) → i < length ds → joinedOf (drop i ds) ≡ joinedOf (drop (suc i) ds) * 256 + getD ds i 0

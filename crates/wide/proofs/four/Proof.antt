@@ -1,9 +1,9 @@
--- `hex::four` meets its contract. Assumes nothing.
+-- `wide::four` meets its contract. Assumes nothing.
 use native.Mathlib.Omega.{arith}
-use Rattle.hex.proofs.Wide.{most-eight, bytes-eight}
+use Rattle.wide.proofs.Eight.{most-eight, bytes-eight}
 use borrow.Author.Needs.{needs}
-use Rattle.hex.proofs.four.Statement.{statement}
-use Rattle.hex.proofs.four.Tie as tie
+use Rattle.wide.proofs.four.Statement.{statement}
+use Rattle.wide.proofs.four.Tie as tie
 
 values-requires : tie.Need-values-requires
 values-requires c κs = search needs

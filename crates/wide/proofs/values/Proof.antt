@@ -1,11 +1,11 @@
--- `hex::values` meets its contract. Assumes nothing.
+-- `wide::values` meets its contract. Assumes nothing.
 use Prim.Native.Nat.{_/_}
 use native.Mathlib.Omega.{arith}
 use lib.Bits.{and-le-r}
-use Rattle.hex.proofs.Wide.{values-eight}
+use Rattle.wide.proofs.Eight.{values-eight}
 use borrow.Author.Needs.{needs}
-use Rattle.hex.proofs.values.Statement.{statement}
-use Rattle.hex.proofs.values.Tie as tie
+use Rattle.wide.proofs.values.Statement.{statement}
+use Rattle.wide.proofs.values.Tie as tie
 
 number-requires : tie.Need-number-requires
 number-requires c κs = search needs

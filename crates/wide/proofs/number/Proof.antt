@@ -1,9 +1,9 @@
--- `hex::number` meets its contract. Assumes nothing.
+-- `wide::number` meets its contract. Assumes nothing.
 use mathlib.Core.Path.{_∙_}
-use Rattle.hex.proofs.Wide.{number-eight}
+use Rattle.wide.proofs.Eight.{number-eight}
 use borrow.Author.Needs.{needs}
-use Rattle.hex.proofs.number.Statement.{statement}
-use Rattle.hex.proofs.number.Tie as tie
+use Rattle.wide.proofs.number.Statement.{statement}
+use Rattle.wide.proofs.number.Tie as tie
 
 shared-slice-read-join : tie.Need-shared-slice-read-join
 shared-slice-read-join c = search needs
