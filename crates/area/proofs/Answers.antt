@@ -18,9 +18,10 @@ use Rattle.access.specs.declared.Access.{Access}
 use Rattle.action.specs.declared.Action.{Action}
 use Rattle.access.specs.Access.{blockAccess}
 use Rattle.action.specs.Action.{actionOf, ranOf}
-use Rattle.decision.specs.declared.Command.{Command}
+use Rattle.command.specs.declared.Command.{Command}
 use Rattle.decision.specs.declared.Decision.{Decision}
-use Rattle.decision.specs.Decide.{commandOf, decideOf}
+use Rattle.command.specs.Command.{commandOf}
+use Rattle.decision.specs.Decide.{decideOf}
 use Rattle.hex.specs.Hex.{bytesOf}
 use Rattle.hex.proofs.Fields.{bytes-length}
 use Rattle.cells.specs.Cells.{marked, learnt, Worked, worked, workedOf, reports, statusMoves, readMoves, readsMoves, decisionMoves, requestMoves, begun}

@@ -12,7 +12,8 @@ use Rattle.mode.specs.declared.Mode.{Mode}
 use Rattle.mode.specs.Table.{allowedOf}
 use Rattle.device.specs.State.{started, afterStatus, reportOf}
 use Rattle.device.specs.WellFormed.{inRegion, wellFormed}
-use Rattle.decision.specs.Decide.{commandOf, commandedOf, downloadOf, decideOf}
+use Rattle.command.specs.Command.{commandOf}
+use Rattle.decision.specs.Decide.{commandedOf, downloadOf, decideOf}
 use Rattle.access.specs.Access.{blockAddress, accessOf, blockAccess}
 use Rattle.action.specs.Action.{actionOf}
 use Rattle.memory.specs.Flash.{each, blank, laid, stored, erased}

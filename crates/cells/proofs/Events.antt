@@ -26,10 +26,11 @@ use Rattle.mode.specs.Wire.{wireOf}
 use Rattle.device.specs.State.{started, idled, entered, reportOf}
 use Rattle.device.specs.WellFormed.{wellFormed}
 use Rattle.device.proofs.Form.{Form, well-formed, after-status-none}
-use Rattle.decision.specs.declared.Command.{Command}
+use Rattle.command.specs.declared.Command.{Command}
 use Rattle.decision.specs.declared.Decision.{Decision}
 use Rattle.decision.specs.declared.Decision.the-variants as decided
-use Rattle.decision.specs.Decide.{commandOf, decideOf, waiting}
+use Rattle.command.specs.Command.{commandOf}
+use Rattle.decision.specs.Decide.{decideOf, waiting}
 use Rattle.decision.proofs.Cases.{decide-case}
 use Rattle.access.specs.declared.Access.{Access}
 use Rattle.access.specs.declared.Access.the-variants.{Denied, InFlash, InRam, InOptions}

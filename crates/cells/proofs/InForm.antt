@@ -18,7 +18,8 @@ use Rattle.device.specs.WellFormed.{inRegion}
 use Rattle.device.proofs.Form.{Form, Sane, Calm, entered-form, after-status-form}
 use Rattle.decision.specs.declared.Decision.{Decision}
 use Rattle.decision.specs.declared.Decision.the-variants as decided
-use Rattle.decision.specs.Decide.{commandOf, decideOf}
+use Rattle.command.specs.Command.{commandOf}
+use Rattle.decision.specs.Decide.{decideOf}
 use Rattle.decision.proofs.Form.{Formed, decide-formed}
 use Rattle.access.specs.declared.Access.{Access}
 use Rattle.access.specs.declared.Access.the-variants.{Denied, InFlash, InRam, InOptions}

@@ -9,7 +9,7 @@ use Rattle.mode.specs.declared.Mode.{Mode}
 use Rattle.mode.specs.declared.Mode.the-variants.{Idle, DownloadSync, DownloadBusy, DownloadIdle, ManifestSync, UploadIdle, Error, Left, Rebooting}
 use Rattle.device.specs.declared.Device.{Device}
 use Rattle.mode.specs.Table.{allowedOf}
-use Rattle.decision.specs.declared.Command.{Command}
+use Rattle.command.specs.declared.Command.{Command}
 use Rattle.decision.specs.declared.Decision.{Decision}
 use Rattle.decision.specs.declared.Decision.the-variants.{Silent, Stall, Accept, Take, Commands, Read, State, Status}
 use Rattle.decision.specs.Decide.{silentOf, refusedOf, decideOf, isStatus}

@@ -5,7 +5,7 @@ use mathlib.Core.Bool.{true}
 use Rattle.request.specs.declared.Setup.{Setup}
 use Rattle.request.specs.Request.{transferBytes}
 use Rattle.device.specs.declared.Device.{Device}
-use Rattle.decision.specs.declared.Command.{Command}
+use Rattle.command.specs.declared.Command.{Command}
 use Rattle.decision.specs.declared.Decision.{Decision}
 use Rattle.decision.specs.declared.Decision.the-variants.{Silent, Stall, Accept, Take, Commands, Read, State, Status}
 use Rattle.decision.specs.Decide.{decideOf}

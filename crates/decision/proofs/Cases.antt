@@ -19,7 +19,7 @@ use Rattle.device.specs.declared.Device.{Device}
 use Rattle.mode.specs.Table.{allowedOf}
 use Rattle.device.specs.State.{idled, entered}
 use Rattle.device.specs.WellFormed.{writeFits}
-use Rattle.decision.specs.declared.Command.{Command}
+use Rattle.command.specs.declared.Command.{Command}
 use Rattle.decision.specs.declared.Decision.{Decision}
 use Rattle.decision.specs.declared.Decision.the-variants.{Silent, Accept, Take, Commands, Read, State, Status}
 use Rattle.decision.specs.Decide.{decideOf, servedOf, downloadOf, commandedOf, uploadOf, refusedOf, waiting, waitingIf, listedCount, silentOf}

@@ -1,9 +1,7 @@
 -- What a request comes to, before any buffer is touched. Document 01, "Events", "DNLOAD", "UPLOAD". Assumes nothing.
 use mathlib.Core.Bool.{Bool, true, false, cond}
-use mathlib.Core.List.{List}
-use Prim.Native.Nat.{ℕ, _+_, _*_}
+use Prim.Native.Nat.{ℕ}
 use lib.Dec.{eqb, leb}
-use lib.ListN.{getD}
 use Rattle.request.specs.declared.Setup.{Setup}
 use Rattle.request.specs.declared.Request.{Request}
 use Rattle.request.specs.declared.Request.the-variants.{Download, Upload, GetStatus, ClearStatus, GetState, Abort, Unknown}
@@ -13,16 +11,12 @@ use Rattle.mode.specs.declared.Mode.the-variants.{Idle, DownloadSync, ManifestS
 use Rattle.device.specs.declared.Pending.{Pending}
 use Rattle.device.specs.declared.Pending.the-variants.{SetPointer, ErasePage, MassErase, ReadUnprotect, Write}
 use Rattle.device.specs.declared.Device.{Device}
-use Rattle.decision.specs.declared.Command.{Command}
+use Rattle.command.specs.declared.Command.{Command}
 use Rattle.decision.specs.declared.Decision.{Decision}
 use Rattle.decision.specs.declared.Decision.the-variants.{Silent, Stall, Accept, Take, Commands, Read, State, Status}
 use Rattle.mode.specs.Wire.{isMode, errSTALLEDPKT}
 use Rattle.mode.specs.Table.{allowedOf}
 use Rattle.device.specs.State.{idled, entered, stalled}
-
--- "DNLOAD": the command byte, and "four address bytes, low first"; 0 where the data stage q has none
-unfoldable pub commandOf : List ℕ → Command
-commandOf q = record { code = getD q 0 0; address = getD q 1 0 + getD q 2 0 * 0x100 + getD q 3 0 * 0x10000 + getD q 4 0 * 0x1000000 }
 
 -- "In Left or Rebooting a request is Silent": the modes without wire number
 abbrev pub silentOf : Mode → Bool

@@ -1,17 +1,12 @@
 // What a request comes to, decided from numbers alone. Loader and checker both act on it.
 ghost use mathlib.Core.Path.{_≡_};
-ghost use Rattle.decision.specs.Decide.{commandOf, decideOf, isStatus, servedOf, downloadOf, commandedOf, erasingOf, uploadOf, listedCount, waiting, waitingIf, refusedOf};
+ghost use Rattle.decision.specs.Decide.{decideOf, isStatus, servedOf, downloadOf, commandedOf, erasingOf, uploadOf, listedCount, waiting, waitingIf, refusedOf};
+use command::Command;
 use device::Device;
 use device::Pending;
 use mode::Mode;
 use request::Request;
 use request::Setup;
-
-// The first data byte of a DNLOAD, and the four after it as an address; 0 where they are missing.
-pub struct Command {
-    pub code: u8,
-    pub address: u32,
-}
 
 // What a request comes to. Stall, Accept, Take and Commands carry the device after it.
 pub enum Decision {
@@ -27,23 +22,6 @@ pub enum Decision {
     State,
     // What is pending runs first.
     Status,
-}
-
-impl Command {
-    // The command that a data stage spells.
-    pub fn of(stage: &[u8]) -> Command
-        ensures { λ r. ⌜ r ≡ commandOf (now (stage .entry)) ⌝ }
-    {
-        let code = buffer::byte_at(stage, 0);
-        let a = buffer::byte_at(stage, 1);
-        let b = buffer::byte_at(stage, 2);
-        let c = buffer::byte_at(stage, 3);
-        let d = buffer::byte_at(stage, 4);
-        Command {
-            code,
-            address: a as u32 + b as u32 * 0x100 + c as u32 * 0x1_0000 + d as u32 * 0x100_0000,
-        }
-    }
 }
 
 // Does the request come to Status? Most requests of a job do, and no command has to be read for it: a caller may ask this first.

@@ -17,10 +17,11 @@ use Rattle.device.specs.declared.Ran.{Ran}
 use Rattle.device.specs.declared.Report.{Report}
 use Rattle.mode.specs.Wire.{isMode}
 use Rattle.device.specs.State.{afterStatus, reportOf, nothingRan}
-use Rattle.decision.specs.declared.Command.{Command}
+use Rattle.command.specs.declared.Command.{Command}
 use Rattle.decision.specs.declared.Decision.{Decision}
 use Rattle.decision.specs.declared.Decision.the-variants.{Read}
-use Rattle.decision.specs.Decide.{commandOf, decideOf}
+use Rattle.command.specs.Command.{commandOf}
+use Rattle.decision.specs.Decide.{decideOf}
 use Rattle.decision.proofs.Bounds.{Bounded, decide-bounded}
 use Rattle.access.specs.declared.Access.{Access}
 use Rattle.action.specs.declared.Action.{Action}

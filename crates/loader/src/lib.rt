@@ -19,7 +19,7 @@ ghost use Rattle.loader.specs.Step.{misfits, admittedOf, stepOf};
 use access::Access;
 use action::Action;
 use board::Board;
-use decision::Command;
+use command::Command;
 use decision::Decision;
 use device::Device;
 use device::Ran;

@@ -25,7 +25,8 @@ use Rattle.mode.specs.Wire.{isMode}
 use Rattle.mode.specs.Table.{allowedOf}
 use Rattle.device.specs.WellFormed.{inRegion}
 use Rattle.device.specs.State.{afterStatus, reportOf}
-use Rattle.decision.specs.Decide.{commandOf, commandedOf, downloadOf, decideOf}
+use Rattle.command.specs.Command.{commandOf}
+use Rattle.decision.specs.Decide.{commandedOf, downloadOf, decideOf}
 use Rattle.action.specs.declared.Action.{Action}
 use Rattle.action.specs.declared.Action.the-variants.{Point, Erase, StoreFlash}
 use Rattle.access.specs.Access.{accessOf, blockAddress, blockAccess}

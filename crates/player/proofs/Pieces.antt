@@ -18,9 +18,10 @@ use Rattle.request.specs.Setup.{setupOf}
 use Rattle.device.specs.declared.Device.{Device}
 use Rattle.device.specs.declared.Pending.{Pending}
 use Rattle.device.specs.State.{started}
-use Rattle.decision.specs.declared.Command.{Command}
+use Rattle.command.specs.declared.Command.{Command}
 use Rattle.decision.specs.declared.Decision.{Decision}
-use Rattle.decision.specs.Decide.{commandOf, decideOf}
+use Rattle.command.specs.Command.{commandOf}
+use Rattle.decision.specs.Decide.{decideOf}
 use Rattle.loader.specs.declared.Event.{Event}
 use Rattle.loader.specs.declared.Event.the-variants.{Attach, Request}
 use Rattle.loader.specs.Step.{stepOf, steps, admittedOf, sizesOf}

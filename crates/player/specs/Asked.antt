@@ -11,7 +11,8 @@ use Rattle.device.specs.declared.Pending.the-variants.{Nothing}
 use Rattle.device.specs.State.{started}
 use Rattle.decision.specs.declared.Decision.{Decision}
 use Rattle.decision.specs.declared.Decision.the-variants.{Silent, Stall, Accept, Take, Commands, Read, State, Status}
-use Rattle.decision.specs.Decide.{commandOf, decideOf}
+use Rattle.command.specs.Command.{commandOf}
+use Rattle.decision.specs.Decide.{decideOf}
 use Rattle.loader.specs.declared.Event.{Event}
 use Rattle.loader.specs.declared.Event.the-variants.{Attach, Request}
 use Rattle.player.specs.declared.Asked.{Asked}

@@ -9,7 +9,7 @@ ghost use Rattle.loader.specs.Answer.{left};
 ghost use Rattle.player.specs.Played.{playedOf};
 ghost use Rattle.player.specs.Change.{firstChange};
 ghost use Rattle.player.specs.Asked.{waitsOf, askedOf};
-use decision::Command;
+use command::Command;
 use decision::Decision;
 use device::Device;
 use device::Pending;

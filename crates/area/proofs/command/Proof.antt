@@ -1,5 +1,5 @@
 -- `area::command` meets its contract. Assumes nothing.
-use Rattle.decision.specs.Decide.{commandOf}
+use Rattle.command.specs.Command.{commandOf}
 use mathlib.Core.Path.{_∙_}
 use borrow.Author.Needs.{needs}
 use Rattle.area.proofs.command.Statement.{statement}

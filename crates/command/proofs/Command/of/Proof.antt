@@ -1,8 +1,8 @@
--- `decision::Command::of` meets its contract. Assumes nothing.
-use Rattle.decision.specs.Decide.{commandOf}
+-- `command::Command::of` meets its contract. Assumes nothing.
+use Rattle.command.specs.Command.{commandOf}
 use borrow.Author.Needs.{needs}
-use Rattle.decision.proofs.Command.of.Statement.{statement}
-use Rattle.decision.proofs.Command.of.Tie as tie
+use Rattle.command.proofs.Command.of.Statement.{statement}
+use Rattle.command.proofs.Command.of.Tie as tie
 
 byte-at-requires : tie.Need-byte-at-requires
 byte-at-requires c κs = search needs
