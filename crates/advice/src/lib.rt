@@ -8,11 +8,11 @@ mod place;
 mod refused;
 mod say;
 
-ghost use mathlib.Core.Path.{_≡_};
-ghost use Rattle.advice.specs.Room.{toldAtOnce, roomOf};
+ghost use Prim.Native.Nat.{_≤_};
 use board::Board;
 use ends::Altered;
 use flash::Found;
+use refusal::Done;
 use verdict::Verdict;
 
 // How many events come before the one in this line.
@@ -85,38 +85,24 @@ fn differs(offset: usize, packed: &[u8], image: &[u8], card: &[u8]) {
     flash::explain(found, line, cause.device);
 }
 
-// A rejected job, packed.
-fn rejected(verdict: Verdict, packed: &[u8], image: &[u8], card: &[u8]) {
+// How many bytes of evidence there are.
+fn size(evidence: Done, room: usize) -> usize
+    ensures { λ r. ⌜ r ≤ room ⌝ }
+{
+    match evidence {
+        Done::Bytes(count) => say::least(count, room),
+        Done::Refused(_) => 0,
+    }
+}
+
+// Says a verdict to people. At the front of `room` stands the evidence that was gathered for it: the job's events, packed.
+pub fn explain(verdict: Verdict, evidence: Done, room: &[u8], image: &[u8], card: &[u8]) {
+    let packed = &room[0..size(evidence, room.len())];
     match verdict {
+        Verdict::Pass => refused::passed(image.len()),
+        Verdict::Refused(why) => refused::explain(why, image.len(), card.len()),
         Verdict::Event(line) => failed(line, packed, card),
         Verdict::End(condition) => ended(condition, packed, card),
         Verdict::Flash(offset) => differs(offset, packed, image, card),
-        _ => {}
     }
-}
-
-// Says a verdict that needs no board, and whether it is one.
-fn is_told(verdict: Verdict, image: usize, card: usize) -> bool
-    ensures { λ r. ⌜ r ≡ toldAtOnce verdict ⌝ }
-{
-    match verdict {
-        Verdict::Pass => refused::passed(image),
-        Verdict::Refused(why) => refused::explain(why, image, card),
-        Verdict::Event(_) => false,
-        Verdict::End(_) => false,
-        Verdict::Flash(_) => false,
-    }
-}
-
-// Says a verdict to people. `room` is the checker's work area, which it needs no more: a packed job has half the bytes
-// of its text at most, and so has room there. Only boards that live through the job tell why it is rejected.
-pub fn explain(verdict: Verdict, job: &[u8], image: &[u8], card: &[u8], room: &mut [u8])
-    ensures { λ _. ⌜ now (room .exit) ≡ roomOf verdict (now (job .entry)) (now (room .entry)) ⌝ }
-{
-    if is_told(verdict, image.len(), card.len()) {
-        return;
-    }
-    let done = job::read(job, room);
-    let count = say::least(say::size(done), room.len());
-    rejected(verdict, &room[0..count], image, card);
 }

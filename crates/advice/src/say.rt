@@ -2,7 +2,6 @@
 ghost use Prim.Native.Nat.{_≤_};
 use libc::STDERR_FILENO;
 use mode::Mode;
-use refusal::Done;
 use request::Request;
 
 // Room for the longest sentence.
@@ -10,14 +9,6 @@ const ROOM: usize = 512;
 
 // Room for the longest name.
 const NAME: usize = 64;
-
-// How many bytes there are, none where the call refused.
-pub(crate) fn size(done: Done) -> usize {
-    match done {
-        Done::Bytes(count) => count,
-        Done::Refused(_) => 0,
-    }
-}
 
 pub(crate) fn least(a: usize, b: usize) -> usize
     ensures { λ r. ⌜ (r ≤ a) × (r ≤ b) ⌝ }

@@ -92,7 +92,8 @@ fn judge(job: &[u8], image: &[u8], card: &[u8], is_quiet: bool) {
     if is_quiet {
         return;
     }
-    advice::explain(verdict, job, image, card, &mut work);
+    let gathered = evidence::gather(verdict, job, &mut work);
+    advice::explain(verdict, gathered, &work, image, card);
     say(b"\n");
 }
 
