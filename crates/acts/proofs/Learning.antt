@@ -9,7 +9,7 @@ use lib.Seq.{length-take-le}
 use Rattle.laws.specs.Bytes.{put}
 use Rattle.board.specs.Layout.{memoryBytes}
 use Rattle.request.specs.Request.{transferBytes}
-use Rattle.memory.specs.Flash.{each, blank, stored}
+use Rattle.flash.specs.Flash.{each, blank, stored}
 use Rattle.memory.specs.Whole.{unprotected}
 use Rattle.verdict.specs.Checked.{workBytes}
 use Rattle.cells.specs.Cells.{blockFrom, blockOf, marked, learnt, surely, worked, writes}

@@ -12,8 +12,8 @@ use Rattle.laws.specs.Bytes.{put, filled}
 use Rattle.laws.proofs.Bytes.{sets-turn, sets-end, sets-put}
 use Rattle.board.specs.Layout.{pageBytes}
 use Rattle.board.specs.Protection.{writeProtected}
-use Rattle.memory.specs.Flash.{kept, each, stored}
-use Rattle.memory.proofs.Flash.{stored-open, stored-kept, stored-end}
+use Rattle.flash.specs.Flash.{kept, each, stored}
+use Rattle.flash.proofs.Flash.{stored-open, stored-kept, stored-end}
 use Rattle.cells.specs.Cells.{marked, learnt, blockFrom, blockOf, pageErased, pagesErased}
 
 -- the place behind a mark, which stands o places behind its byte

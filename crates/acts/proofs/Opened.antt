@@ -17,7 +17,7 @@ use Rattle.board.specs.Layout.{pageBytes, flashBytes, memoryBytes}
 use Rattle.board.specs.Protection.{writeProtected, anyProtected}
 use Rattle.board.proofs.Protection.{none-parts, none-at}
 use Rattle.request.specs.Request.{transferBytes}
-use Rattle.memory.specs.Flash.{kept, each, blank, laid, stored}
+use Rattle.flash.specs.Flash.{kept, each, blank, laid, stored}
 use Rattle.verdict.specs.Checked.{workBytes}
 use Rattle.cells.specs.Cells.{blockOf, marked, learnt, pageErased, pagesErased}
 use Rattle.laws.specs.Lists.{allAre}

@@ -9,7 +9,7 @@ ghost use Rattle.board.specs.Layout.{pageBytes, flashBytes, ramFrom, ramBytes, 
 ghost use Rattle.board.specs.Protection.{anyProtected};
 ghost use Rattle.request.specs.Request.{transferBytes};
 ghost use Rattle.loader.specs.Inner.{endOf, countOf};
-ghost use Rattle.memory.specs.Flash.{each, stored};
+ghost use Rattle.flash.specs.Flash.{each, stored};
 ghost use Rattle.memory.specs.Whole.{unprotected};
 ghost use Rattle.verdict.specs.Checked.{workBytes};
 ghost use Rattle.cells.specs.Cells.{learnt, blockOf, pageErased, pagesErased, worked, workedOf, writes};
@@ -125,7 +125,7 @@ fn write_sparing(board: Board, work: &mut [u8], word: u32, at: usize, count: usi
     requires { ⌜ (at + count ≤ memoryBytes (board .pages)) × (count ≤ transferBytes) × (length (now work) ≡ workBytes (board .pages)) ⌝ }
     ensures { λ r. ⌜ worked r (now (work .exit)) ≡ writes (board .pages) word at count (now (work .entry)) ⌝ }
 {
-    if !memory::is_blank(work, word, at, count) {
+    if !flash::is_blank(work, word, at, count) {
         return Device::WRITE;
     }
     if !is_known(board, work, word, at, count) {

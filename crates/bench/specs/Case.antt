@@ -16,7 +16,7 @@ use Rattle.command.specs.Command.{commandOf}
 use Rattle.decision.specs.Decide.{commandedOf, downloadOf, decideOf}
 use Rattle.access.specs.Access.{blockAddress, accessOf, blockAccess}
 use Rattle.action.specs.Action.{actionOf}
-use Rattle.memory.specs.Flash.{each, blank, laid, stored, erased}
+use Rattle.flash.specs.Flash.{each, blank, laid, stored, erased}
 use Rattle.loader.specs.declared.Event.the-variants as event
 use Rattle.loader.specs.Answer.{Outcome}
 use Rattle.loader.specs.Serve.{runOf, statusOf, serveOf}

@@ -14,9 +14,9 @@ use Rattle.laws.proofs.Append.{put-over}
 use Rattle.laws.proofs.Split.{by-bool, by-lt, and-true}
 use Rattle.board.specs.Layout.{pageBytes, flashBytes, ramFrom, ramBytes, optionsFrom, memoryBytes, defaults}
 use Rattle.board.specs.Protection.{readProtected, wordOf, writeProtected, lockedFrom, wordFrom}
-use Rattle.memory.specs.Flash.{kept, each, blank, stored, erased, erasedFrom, erasedAll}
+use Rattle.flash.specs.Flash.{kept, each, blank, stored, erased, erasedFrom, erasedAll}
 use Rattle.memory.specs.Whole.{unprotected, ramCleared}
-use Rattle.memory.proofs.Places.{stored-length, stored-outside, stored-spares, stored-puts, each-all, each-if, each-not, Odd}
+use Rattle.flash.proofs.Places.{stored-length, stored-outside, stored-spares, stored-puts, each-all, each-if, each-not, Odd}
 use Rattle.cells.specs.Cells.{known, learnt, surely, pageErased, pagesErased}
 use Rattle.cells.proofs.Likeness.{Alike, among, learnt-alike}
 

@@ -14,7 +14,7 @@ use Rattle.board.specs.Protection.{wordOf}
 use Rattle.request.specs.Request.{transferBytes}
 use Rattle.action.specs.declared.Action.{Action}
 use Rattle.action.specs.declared.Action.the-variants.{Rest, Fail, Point, Erase, EraseAll, Unprotect, ClearRam, StoreFlash, StoreRam, StoreOptions}
-use Rattle.memory.specs.Flash.{blank}
+use Rattle.flash.specs.Flash.{blank}
 use Rattle.loader.specs.Inner.{countOf}
 use Rattle.loader.specs.Perform.{performedOf}
 use Rattle.loader.proofs.Bounds.{Fits}

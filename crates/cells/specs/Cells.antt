@@ -26,7 +26,7 @@ use Rattle.action.specs.declared.Action.{Action}
 use Rattle.action.specs.declared.Action.the-variants.{Rest, Fail, Point, Erase, EraseAll, Unprotect, ClearRam, StoreFlash, StoreRam, StoreOptions}
 use Rattle.access.specs.Access.{blockAccess}
 use Rattle.action.specs.Action.{actionOf, ranOf}
-use Rattle.memory.specs.Flash.{each, blank, stored}
+use Rattle.flash.specs.Flash.{each, blank, stored}
 use Rattle.memory.specs.Whole.{unprotected}
 use Rattle.laws.specs.Lists.{same}
 use Rattle.text.specs.Event.{Event, attach, request}

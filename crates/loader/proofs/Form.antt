@@ -34,7 +34,7 @@ use Rattle.action.specs.declared.Action.the-variants.{Rest, Fail, Point, Erase,
 use Rattle.access.specs.Access.{blockAccess}
 use Rattle.access.proofs.Denials.{Refusing, block-refusing}
 use Rattle.action.specs.Action.{pointOf, eraseAt, storeAt, actionIn, actionOf, movedOf, ranOf}
-use Rattle.memory.specs.Flash.{blank}
+use Rattle.flash.specs.Flash.{blank}
 use Rattle.loader.specs.declared.Event.{Event}
 use Rattle.loader.specs.declared.Event.the-variants as event
 use Rattle.refusal.specs.declared.Admission.{Admission}

@@ -8,7 +8,7 @@ use Rattle.board.specs.Protection.{wordOf}
 use Rattle.mode.specs.Wire.{errWRITE}
 use Rattle.action.specs.declared.Action.{Action}
 use Rattle.action.specs.declared.Action.the-variants.{Rest, Fail, Point, Erase, EraseAll, Unprotect, ClearRam, StoreFlash, StoreRam, StoreOptions}
-use Rattle.memory.specs.Flash.{blank, stored, erased, erasedAll}
+use Rattle.flash.specs.Flash.{blank, stored, erased, erasedAll}
 use Rattle.memory.specs.Whole.{unprotected, ramCleared}
 
 -- the status of an action, and the memory after it

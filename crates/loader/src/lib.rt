@@ -276,11 +276,11 @@ fn perform(board: Board, action: Action, memory: &mut [u8], block: &[u8]) -> u8
         Action::Fail(status) => status,
         Action::Point(_) => 0,
         Action::Erase(page) => {
-            memory::erase(memory, word, page);
+            flash::erase(memory, word, page);
             0
         }
         Action::EraseAll => {
-            memory::erase_all(board, memory, word);
+            flash::erase_all(board, memory, word);
             0
         }
         Action::Unprotect => {
@@ -308,9 +308,9 @@ fn write(memory: &mut [u8], word: u32, at: usize, source: &[u8]) -> u8
     requires { ⌜ at + length (now source) ≤ length (now memory) ⌝ }
     ensures { λ r. ⌜ performed r (now (memory .exit)) ≡ writtenOf word at (now (source .entry)) (now (memory .entry)) ⌝ }
 {
-    if !memory::is_blank(memory, word, at, source.len()) {
+    if !flash::is_blank(memory, word, at, source.len()) {
         return Device::WRITE;
     }
-    memory::store(memory, word, at, source);
+    flash::store(memory, word, at, source);
     0
 }

@@ -1,3 +1,1 @@
-pub mod Flash
-pub mod Places
 pub mod Whole

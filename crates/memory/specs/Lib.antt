@@ -1,2 +1,1 @@
-pub mod Flash
 pub mod Whole

@@ -19,7 +19,7 @@ use Rattle.mode.specs.declared.Mode.the-variants.{DownloadIdle}
 use Rattle.mode.specs.Wire.{isMode}
 use Rattle.mode.specs.Table.{allowedOf}
 use Rattle.laws.specs.Lists.{allBytes}
-use Rattle.memory.specs.Flash.{kept, stored}
+use Rattle.flash.specs.Flash.{kept, stored}
 use Rattle.text.specs.Event.{Event}
 use Rattle.verdict.specs.World.{Fresh}
 use Rattle.verdict.specs.Checked.{workBytes}

@@ -18,8 +18,8 @@ use Rattle.laws.proofs.Split.{by-lt}
 use Rattle.board.specs.Layout.{pageBytes, memoryBytes}
 use Rattle.board.specs.Protection.{writeProtected}
 use Rattle.request.specs.Request.{transferBytes}
-use Rattle.memory.specs.Flash.{kept, each, blank, stored}
-use Rattle.memory.proofs.Places.{stored-length, stored-outside, stored-puts, each-if}
+use Rattle.flash.specs.Flash.{kept, each, blank, stored}
+use Rattle.flash.proofs.Places.{stored-length, stored-outside, stored-puts, each-if}
 use Rattle.verdict.specs.Checked.{workBytes}
 use Rattle.cells.specs.Cells.{blockFrom, known, learnt, surely, pageErased, blockOf}
 use Rattle.cells.proofs.Learnt.{Outside, learnt-length, learnt-known, learnt-value, learnt-known-outside, learnt-value-outside}

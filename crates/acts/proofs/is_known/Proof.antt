@@ -1,8 +1,8 @@
 -- `acts::is_known` meets its contract. Assumes nothing.
-use Rattle.memory.proofs.Flash.{each-is, each-kept, each-odd, each-end, each-span}
+use Rattle.flash.proofs.Flash.{each-is, each-kept, each-odd, each-end, each-span}
 use native.Mathlib.Omega.{arith}
 use Rattle.acts.proofs.Loops.{next-mark}
-use Rattle.memory.specs.Flash.{each}
+use Rattle.flash.specs.Flash.{each}
 use borrow.Author.Tests.{not-true, not-false}
 use lib.ListN.{drop, length}
 use Prim.Native.Nat.{_+_, _-_, _≤_, _<_}

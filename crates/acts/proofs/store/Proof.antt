@@ -1,7 +1,7 @@
 -- `acts::store` meets its contract. Assumes nothing.
 use native.Mathlib.Omega.{arith}
 use Rattle.acts.proofs.Loops.{store-open, store-kept, block-stays, store-end}
-use Rattle.memory.specs.Flash.{stored}
+use Rattle.flash.specs.Flash.{stored}
 use borrow.Author.Tests.{not-true, not-false}
 use lib.ListN.{length, take, drop, length-set}
 use native.Mathlib.Nat.{add-zero}

@@ -11,8 +11,8 @@ use lib.ListN.{length, getD, length-set}
 use lib.Seq.{getD-set-same, getD-set-other}
 use borrow.Author.Tests.{eqb-true, eqb-false, eq-eqb}
 use Rattle.laws.proofs.Split.{by-bool, by-eq, and-true}
-use Rattle.memory.specs.Flash.{kept, each, stored}
-use Rattle.memory.proofs.Flash.{storedOne, stored-cons, stored-none}
+use Rattle.flash.specs.Flash.{kept, each, stored}
+use Rattle.flash.proofs.Flash.{storedOne, stored-cons, stored-none}
 
 module _ (word at x : ℕ) (m : List ℕ) where
   one-length : length (storedOne word at x m) ≡ length m

@@ -15,7 +15,7 @@ use Rattle.laws.proofs.Split.{by-bool}
 use Rattle.laws.proofs.Bytes.{filled-length, filled-span}
 use Rattle.board.specs.Layout.{pageBytes}
 use Rattle.board.specs.Protection.{writeProtected}
-use Rattle.memory.specs.Flash.{kept, each, laid, stored, erased, erasedFrom}
+use Rattle.flash.specs.Flash.{kept, each, laid, stored, erased, erasedFrom}
 
 -- a test of bytes w from place j on, which stand for places i up to e
 module _ (v word : ℕ) (w : List ℕ) (i e j : ℕ) (h : i < e) (l : j < length w) where

@@ -1,15 +1,15 @@
--- `memory::is_blank` meets its contract. Assumes nothing.
+-- `flash::is_blank` meets its contract. Assumes nothing.
 use lib.ListN.{drop, length}
--- `memory::is_blank` meets its contract. Assumes nothing.
+-- `flash::is_blank` meets its contract. Assumes nothing.
 use native.Mathlib.Omega.{arith}
-use Rattle.memory.proofs.Flash.{each-is, each-kept, each-odd, each-end, each-span}
-use Rattle.memory.specs.Flash.{each, blank}
+use Rattle.flash.proofs.Flash.{each-is, each-kept, each-odd, each-end, each-span}
+use Rattle.flash.specs.Flash.{each, blank}
 use borrow.Author.Tests.{not-true, not-false}
 use Prim.Native.Nat.{_-_, _≤_, _<_}
 use mathlib.Core.Logic.{⊎-elim}
 use mathlib.Core.Path.{_≡_, sym, _∙_}
-use Rattle.memory.proofs.is_blank.Statement.{statement}
-use Rattle.memory.proofs.is_blank.Tie as tie
+use Rattle.flash.proofs.is_blank.Statement.{statement}
+use Rattle.flash.proofs.is_blank.Tie as tie
 
 abbrev Inv-loop : tie.InvT-loop
 Inv-loop memory word at count end i₀ i = (each 0xFF word i (end - i) (drop i memory) ≡ each 0xFF word at count (drop at memory)) × (at ≤ i)

@@ -1,13 +1,13 @@
--- `memory::erase_all` meets its contract. Assumes nothing.
+-- `flash::erase_all` meets its contract. Assumes nothing.
 use native.Mathlib.Nat.{sub-zero}
 use native.Mathlib.Omega.{arith}
-use Rattle.memory.proofs.Flash.{pages-turn, pages-end, erased-length}
-use Rattle.memory.specs.Flash.{erasedFrom, erasedAll}
+use Rattle.flash.proofs.Flash.{pages-turn, pages-end, erased-length}
+use Rattle.flash.specs.Flash.{erasedFrom, erasedAll}
 use lib.ListN.{length}
 use Prim.Native.Nat.{_-_}
 use mathlib.Core.Path.{_≡_, refl, ap, sym, _∙_}
-use Rattle.memory.proofs.erase_all.Statement.{statement}
-use Rattle.memory.proofs.erase_all.Tie as tie
+use Rattle.flash.proofs.erase_all.Statement.{statement}
+use Rattle.flash.proofs.erase_all.Tie as tie
 
 abbrev Inv-loop : tie.InvT-loop
 Inv-loop memory₀ word pages page₀ memory page = (erasedFrom word (pages - page) page memory ≡ erasedFrom word pages 0 memory₀) × (length memory ≡ length memory₀)

@@ -1,15 +1,15 @@
--- `memory::store` meets its contract. Assumes nothing.
+-- `flash::store` meets its contract. Assumes nothing.
 use native.Mathlib.Omega.{arith}
-use Rattle.memory.proofs.Flash.{stored-open, stored-kept, stored-end}
-use Rattle.memory.specs.Flash.{stored}
+use Rattle.flash.proofs.Flash.{stored-open, stored-kept, stored-end}
+use Rattle.flash.specs.Flash.{stored}
 use borrow.Author.Tests.{not-true, not-false}
 use lib.ListN.{length, drop, length-set}
 use native.Mathlib.Nat.{add-zero}
 use Prim.Native.Nat.{_+_, _-_}
 use mathlib.Core.Logic.{⊎-elim}
 use mathlib.Core.Path.{_≡_, refl, ap, sym, _∙_}
-use Rattle.memory.proofs.store.Statement.{statement}
-use Rattle.memory.proofs.store.Tie as tie
+use Rattle.flash.proofs.store.Statement.{statement}
+use Rattle.flash.proofs.store.Tie as tie
 
 abbrev Inv-loop : tie.InvT-loop
 Inv-loop memory₀ word at source i₀ memory i = (stored word (at + i) (drop i source) memory ≡ stored word at source memory₀) × (length memory ≡ length memory₀)

@@ -1,9 +1,9 @@
--- `memory::erase` meets its contract. Assumes nothing.
-use Rattle.memory.proofs.Flash.{erased-kept, erased-open}
+-- `flash::erase` meets its contract. Assumes nothing.
+use Rattle.flash.proofs.Flash.{erased-kept, erased-open}
 use mathlib.Core.Path.{sym, _∙_}
 use borrow.Author.Needs.{needs}
-use Rattle.memory.proofs.erase.Statement.{statement}
-use Rattle.memory.proofs.erase.Tie as tie
+use Rattle.flash.proofs.erase.Statement.{statement}
+use Rattle.flash.proofs.erase.Tie as tie
 
 write-protected-requires : tie.Need-write-protected-requires
 write-protected-requires c κs = search needs
