@@ -1,10 +1,11 @@
 // Checks a job against an image and a card: one line on standard output says the verdict, and a sentence or two on
 // standard error say it to people, unless the call asks for the line alone.
+ghost use Prim.Native.Nat.{_≤_};
+ghost use lib.ListN.{length};
 use board::Board;
 use files::Got;
 use libc::STDERR_FILENO;
 use libc::STDOUT_FILENO;
-use refusal::Done;
 use refusal::Refusal;
 use request::Setup;
 use verdict::Verdict;
@@ -21,12 +22,6 @@ const CARD_ROOM: usize = Board::OPTION_BYTES + 1;
 // The checker's work area has two bytes for each of the memory, and a block.
 const WORK: usize = 2 * (FLASH + Board::RAM_BYTES + Board::OPTION_BYTES) + Setup::TRANSFER as usize;
 
-// A line has a word, a digit or two, and a number.
-const LINE_ROOM: usize = 64;
-
-// Room for the sentence about a file.
-const ROOM: usize = 512;
-
 // The arguments of a call that names all three files: the program's own name is the first. With a word behind them
 // there is one more, at this place.
 const NAMED: usize = 4;
@@ -41,48 +36,25 @@ fn say(words: &[u8]) {
 
 // Prints the verdict's line.
 fn print(verdict: Verdict) {
-    let mut line = [0u8; LINE_ROOM];
-    let done = verdict::report(verdict, &mut line);
-    match done {
-        Done::Bytes(count) => files::write(STDOUT_FILENO, &line, count),
-        Done::Refused(_) => {}
-    }
+    notice::line(STDOUT_FILENO, verdict);
 }
 
-// The first file that was not read: the argument that names it, or 0 where all were, and how it came out.
-struct Missed {
-    argument: usize,
-    got: Got,
+// Reads a file, or refuses for it.
+fn load(argument: usize, file: &[u8], buffer: &mut [u8], is_quiet: bool) -> Got
+    ensures { λ r. ⌜ r .count ≤ length (now (buffer .exit)) ⌝ }
+{
+    let got = files::read(argument, file, buffer);
+    if !got.is_read {
+        refuse(got, argument, file, is_quiet);
+    }
+    got
 }
 
-// The file that this argument names came out so.
-fn note(missed: Missed, argument: usize, got: Got) -> Missed {
-    if missed.argument != 0 {
-        return missed;
+fn refuse(got: Got, argument: usize, file: &[u8], is_quiet: bool) {
+    print(Verdict::Refused(Refusal::File));
+    if !is_quiet {
+        notice::unreadable(got, argument, file);
     }
-    if got.is_read {
-        return missed;
-    }
-    Missed { argument, got }
-}
-
-// What to say of a file that could not be read.
-fn tell(got: Got, argument: usize, file: &[u8]) {
-    let mut room = [0u8; ROOM];
-    let count = files::unreadable(got, argument, file, &mut room);
-    files::write(STDERR_FILENO, &room, count);
-}
-
-// Refuses for that file.
-fn refuse(missed: Missed) {
-    let argument = missed.argument;
-    let got = missed.got;
-    match argument {
-        1 => tell(got, argument, b"job|job.txt|job, image and card"),
-        2 => tell(got, argument, b"image|image.bin|job, image and card"),
-        _ => tell(got, argument, b"card|card.bin|job, image and card"),
-    }
-    say(b"\n");
 }
 
 fn judge(job: &[u8], image: &[u8], card: &[u8], is_quiet: bool) {
@@ -97,44 +69,39 @@ fn judge(job: &[u8], image: &[u8], card: &[u8], is_quiet: bool) {
     say(b"\n");
 }
 
-// Judges the job where all files were read, or refuses.
-fn answer(job: &[u8], image: &[u8], card: &[u8], missed: Missed, is_quiet: bool) {
-    if missed.argument == 0 {
-        judge(job, image, card, is_quiet);
-        return;
-    }
-    print(Verdict::Refused(Refusal::File));
-    if !is_quiet {
-        refuse(missed);
-    }
-}
-
 // Reads the card.
-fn suit(job: &[u8], image: &[u8], missed: Missed, is_quiet: bool) {
+fn suit(job: &[u8], image: &[u8], is_quiet: bool) {
     let mut card = [0u8; CARD_ROOM];
-    let got = files::read(3, b"card|card.bin", &mut card);
-    let count = got.count;
-    answer(job, image, &card[0..count], note(missed, 3, got), is_quiet);
+    let got = load(3, b"card|card.bin|job, image and card", &mut card, is_quiet);
+    if got.is_read {
+        let count = got.count;
+        judge(job, image, &card[0..count], is_quiet);
+    }
 }
 
 // Reads the image.
-fn hold(job: &[u8], missed: Missed, is_quiet: bool) {
+fn hold(job: &[u8], is_quiet: bool) {
     let mut image = [0u8; IMAGE_ROOM];
-    let got = files::read(2, b"image|image.bin", &mut image);
-    let count = got.count;
-    suit(job, &image[0..count], note(missed, 2, got), is_quiet);
+    let got = load(
+        2,
+        b"image|image.bin|job, image and card",
+        &mut image,
+        is_quiet,
+    );
+    if got.is_read {
+        let count = got.count;
+        suit(job, &image[0..count], is_quiet);
+    }
 }
 
 // Reads the job.
 fn check(is_quiet: bool) {
     let mut job = [0u8; JOB_ROOM];
-    let got = files::read(1, b"job|job.txt", &mut job);
-    let count = got.count;
-    hold(
-        &job[0..count],
-        note(Missed { argument: 0, got }, 1, got),
-        is_quiet,
-    );
+    let got = load(1, b"job|job.txt|job, image and card", &mut job, is_quiet);
+    if got.is_read {
+        let count = got.count;
+        hold(&job[0..count], is_quiet);
+    }
 }
 
 // Is there one word behind the names, and is it `quiet`? A longer word has no room, and counts as one of no bytes.

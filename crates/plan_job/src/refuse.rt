@@ -2,23 +2,15 @@
 use board::Board;
 use files::Got;
 use libc::STDERR_FILENO;
-use refusal::Done;
 use refusal::Refusal;
 use verdict::Verdict;
 
-// Room for a verdict's line, and for a sentence.
-const LINE_ROOM: usize = 64;
-
+// Room for a sentence.
 const ROOM: usize = 512;
 
 // The line.
 fn name(why: Refusal) {
-    let mut line = [0u8; LINE_ROOM];
-    let done = verdict::report(Verdict::Refused(why), &mut line);
-    match done {
-        Done::Bytes(count) => files::write(STDERR_FILENO, &line, count),
-        Done::Refused(_) => {}
-    }
+    notice::line(STDERR_FILENO, Verdict::Refused(why));
 }
 
 // A sentence with three numbers in it.
@@ -41,11 +33,8 @@ pub(crate) fn arguments() {
 
 // A file that is not readable.
 pub(crate) fn unreadable(got: Got, argument: usize, file: &[u8]) {
-    let mut room = [0u8; ROOM];
-    let count = files::unreadable(got, argument, file, &mut room);
     name(Refusal::File);
-    files::write(STDERR_FILENO, &room, count);
-    tell(b"\n", 0, 0, 0);
+    notice::unreadable(got, argument, file);
 }
 
 fn image(size: usize) {
