@@ -22,7 +22,7 @@ use Rattle.loader.specs.Answer.{Outcome}
 use Rattle.loader.specs.Serve.{runOf, statusOf, serveOf}
 use Rattle.loader.specs.Step.{admittedOf, stepOf}
 use Rattle.refusal.specs.Order.{firstOf}
-use Rattle.text.specs.Event.{Event}
+use Rattle.line.specs.Event.{Event}
 use Rattle.verdict.specs.declared.Verdict.{Verdict}
 use Rattle.verdict.specs.Verdict.{endFails}
 use Rattle.verdict.specs.Checked.{workBytes}

@@ -42,7 +42,7 @@ use Rattle.loader.specs.Inner.{InOrder}
 use Rattle.loader.specs.Serve.{runOf, statusBytes, statusOf, readAt, uploadedOf, commandCodes, actedOf, serveOf}
 use Rattle.loader.specs.Step.{sizesOf, stepOf}
 use Rattle.loader.proofs.Admitted.{step-attaches, step-serves, admit-all, in-order-admitted}
-use Rattle.text.specs.Event.{Event, attach, request}
+use Rattle.line.specs.Event.{Event, attach, request}
 use Rattle.verdict.specs.World.{World, worldOf, steppedOf, fails, asksStatus}
 use Rattle.cells.specs.Cells.{known, blockFrom, blockOf, falls, goes, readMoves, readsMoves, statusMoves, decisionMoves, requestMoves, moves}
 use Rattle.cells.proofs.Likeness.{Alike}

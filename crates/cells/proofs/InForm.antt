@@ -28,7 +28,7 @@ use Rattle.action.specs.declared.Action.the-variants.{Rest, Fail, Point, Erase,
 use Rattle.access.specs.Access.{blockAccess}
 use Rattle.action.specs.Action.{actionIn, actionOf, ranOf}
 use Rattle.loader.proofs.Form.{Proper, action-proper, went-well, started-form}
-use Rattle.text.specs.Event.{Event, attach, request}
+use Rattle.line.specs.Event.{Event, attach, request}
 use Rattle.cells.specs.Cells.{surely, workedOf, Moved, falls, goes, reports, statusMoves, readMoves, readsMoves, decisionMoves, requestMoves, moves}
 
 -- where all boards go on, their device is well formed

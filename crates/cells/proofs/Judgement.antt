@@ -15,7 +15,7 @@ use Rattle.device.specs.declared.Device.{Device}
 use Rattle.device.specs.State.{started}
 use Rattle.loader.proofs.Form.{started-form}
 use Rattle.laws.specs.Lists.{same, allBytes}
-use Rattle.text.specs.Event.{Event}
+use Rattle.line.specs.Event.{Event}
 use Rattle.verdict.specs.declared.Verdict.the-variants as verdict
 use Rattle.verdict.specs.World.{World, Fresh, after, failsAt}
 use Rattle.verdict.specs.Verdict.{endFails, endFault, pagesEnd, wantedAt, wrongAt, OnSome, OnNone, RunsClean, EndsWell, Judged}

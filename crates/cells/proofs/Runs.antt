@@ -9,7 +9,7 @@ use lib.ListN.{getD}
 use Rattle.board.specs.Layout.{optionsFrom}
 use Rattle.device.specs.declared.Device.{Device}
 use Rattle.device.proofs.Form.{Form}
-use Rattle.text.specs.Event.{Event}
+use Rattle.line.specs.Event.{Event}
 use Rattle.verdict.specs.World.{World, worldOf, steppedOf, after, fails, failsAt}
 use Rattle.cells.specs.Cells.{Moved, falls, goes, fell, ended, moves, overOf}
 use Rattle.cells.proofs.InForm.{moves-form}

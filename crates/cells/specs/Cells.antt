@@ -29,7 +29,7 @@ use Rattle.action.specs.Action.{actionOf, ranOf}
 use Rattle.flash.specs.Flash.{each, blank, stored}
 use Rattle.memory.specs.Whole.{unprotected}
 use Rattle.laws.specs.Lists.{same}
-use Rattle.text.specs.Event.{Event, attach, request}
+use Rattle.line.specs.Event.{Event, attach, request}
 use Rattle.verdict.specs.declared.Verdict.{Verdict}
 use Rattle.verdict.specs.declared.Verdict.the-variants as verdict
 use Rattle.verdict.specs.Verdict.{endFails, pagesEnd}

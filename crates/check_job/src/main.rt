@@ -13,7 +13,7 @@ use verdict::Verdict;
 const FLASH: usize = Board::LOGGER.pages as usize * Board::PAGE;
 
 // A byte more than the longest job, image and card.
-const JOB_ROOM: usize = job::LIMIT + 1;
+const JOB_ROOM: usize = text::LIMIT + 1;
 
 const IMAGE_ROOM: usize = FLASH + 1;
 
@@ -39,22 +39,40 @@ fn print(verdict: Verdict) {
     notice::line(STDOUT_FILENO, verdict);
 }
 
+// How the program goes about it: with the line alone, and with a file that it could not read.
+struct Manner {
+    is_quiet: bool,
+    is_refused: bool,
+}
+
+// Refuses for a file, unless it has refused for one before.
+fn refuse(manner: Manner, got: Got, argument: usize, file: &[u8]) {
+    if manner.is_refused {
+        return;
+    }
+    print(Verdict::Refused(Refusal::File));
+    if !manner.is_quiet {
+        notice::unreadable(got, argument, file);
+    }
+}
+
+// The same, once it has refused where the file was not read.
+fn after(manner: Manner, got: Got) -> Manner {
+    Manner {
+        is_refused: manner.is_refused | !got.is_read,
+        ..manner
+    }
+}
+
 // Reads a file, or refuses for it.
-fn load(argument: usize, file: &[u8], buffer: &mut [u8], is_quiet: bool) -> Got
+fn load(argument: usize, file: &[u8], buffer: &mut [u8], manner: Manner) -> Got
     ensures { λ r. ⌜ r .count ≤ length (now (buffer .exit)) ⌝ }
 {
     let got = files::read(argument, file, buffer);
     if !got.is_read {
-        refuse(got, argument, file, is_quiet);
+        refuse(manner, got, argument, file);
     }
     got
-}
-
-fn refuse(got: Got, argument: usize, file: &[u8], is_quiet: bool) {
-    print(Verdict::Refused(Refusal::File));
-    if !is_quiet {
-        notice::unreadable(got, argument, file);
-    }
 }
 
 fn judge(job: &[u8], image: &[u8], card: &[u8], is_quiet: bool) {
@@ -70,38 +88,35 @@ fn judge(job: &[u8], image: &[u8], card: &[u8], is_quiet: bool) {
 }
 
 // Reads the card.
-fn suit(job: &[u8], image: &[u8], is_quiet: bool) {
+fn suit(job: &[u8], image: &[u8], manner: Manner) {
     let mut card = [0u8; CARD_ROOM];
-    let got = load(3, b"card|card.bin|job, image and card", &mut card, is_quiet);
-    if got.is_read {
+    let got = load(3, b"card|card.bin|job, image and card", &mut card, manner);
+    if got.is_read && !manner.is_refused {
         let count = got.count;
-        judge(job, image, &card[0..count], is_quiet);
+        judge(job, image, &card[0..count], manner.is_quiet);
     }
 }
 
 // Reads the image.
-fn hold(job: &[u8], is_quiet: bool) {
+fn hold(job: &[u8], manner: Manner) {
     let mut image = [0u8; IMAGE_ROOM];
     let got = load(
         2,
         b"image|image.bin|job, image and card",
         &mut image,
-        is_quiet,
+        manner,
     );
-    if got.is_read {
-        let count = got.count;
-        suit(job, &image[0..count], is_quiet);
-    }
+    let count = got.count;
+    suit(job, &image[0..count], after(manner, got));
 }
 
-// Reads the job.
-fn check(is_quiet: bool) {
+// Reads the job. All three files are asked for, whatever comes of one: a call without files then costs what a call costs
+// beside its work, and the figures take it off.
+fn check(manner: Manner) {
     let mut job = [0u8; JOB_ROOM];
-    let got = load(1, b"job|job.txt|job, image and card", &mut job, is_quiet);
-    if got.is_read {
-        let count = got.count;
-        hold(&job[0..count], is_quiet);
-    }
+    let got = load(1, b"job|job.txt|job, image and card", &mut job, manner);
+    let count = got.count;
+    hold(&job[0..count], after(manner, got));
 }
 
 // Is there one word behind the names, and is it `quiet`? A longer word has no room, and counts as one of no bytes.
@@ -112,7 +127,7 @@ fn is_quiet(count: usize) -> bool {
 }
 
 // How the program is called: 0 for three files or none, 1 for three files and the word, 2 for anything else.
-fn manner(count: usize) -> usize {
+fn call(count: usize) -> usize {
     if count < 2 {
         return 0;
     }
@@ -123,9 +138,12 @@ fn manner(count: usize) -> usize {
 }
 
 fn main() {
-    let manner = manner(os::arg_count());
-    if manner < 2 {
-        check(manner == 1);
+    let call = call(os::arg_count());
+    if call < 2 {
+        check(Manner {
+            is_quiet: call == 1,
+            is_refused: false,
+        });
         return;
     }
     print(Verdict::Refused(Refusal::File));

@@ -11,7 +11,7 @@ use Rattle.device.specs.State.{started}
 use Rattle.device.specs.WellFormed.{wellFormed}
 use Rattle.device.proofs.Form.{form-of, well-formed}
 use Rattle.hex.specs.Hex.{bytesOf}
-use Rattle.text.specs.Event.{Event, attach, request}
+use Rattle.line.specs.Event.{Event, attach, request}
 use Rattle.text.specs.Text.{eventsOf}
 use Rattle.text.proofs.WalkEvents.{Beyond, Requested, events-end}
 use Rattle.cells.specs.Cells.{Over, fell, ended, falls, goes, requestMoves, moves, overOf}

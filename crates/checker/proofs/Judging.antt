@@ -10,8 +10,8 @@ use Rattle.device.specs.State.{started}
 use Rattle.refusal.specs.declared.Admission.{Admission}
 use Rattle.refusal.specs.declared.Admission.the-variants as admission
 use Rattle.laws.specs.Lists.{allBytes}
-use Rattle.text.specs.Event.{Event, attach, request, fits, proper}
-use Rattle.text.specs.Text.{eventsOf}
+use Rattle.line.specs.Event.{Event, attach, request, fits}
+use Rattle.text.specs.Text.{proper, eventsOf}
 use Rattle.text.proofs.EventText.{proper-parts, good-proper}
 use Rattle.verdict.specs.declared.Verdict.{Verdict}
 use Rattle.verdict.specs.declared.Verdict.the-variants as verdict

@@ -1,11 +1,7 @@
 pub mod Refusals
 pub mod Measuring
 pub mod Packing
-pub mod PieceLength
-pub mod EventPacked
 pub mod PackLoop
-pub mod SpellSize
-pub mod SpellLoop
 pub mod Answers
 pub mod Order
 pub mod Theorems

@@ -9,11 +9,13 @@ use borrow.Author.Tests.{lt-ltb, le-ltb}
 use Rattle.laws.proofs.Split.{by-lt}
 use Rattle.refusal.specs.declared.Refusal.the-variants.{Text, Line}
 use Rattle.refusal.specs.declared.Done.the-variants.{Bytes, Refused}
-use Rattle.text.specs.Text.{limit, firstLine, linesOf, eventOf, wellSpelled, badFrom, firstBad, eventsIn, eventsOf}
-use Rattle.text.specs.Ways.{lineLength}
-use Rattle.text.proofs.Formed.{asks-event, asks-length}
-use Rattle.text.proofs.Walking.{short-attaches, long-asks, formed, line-is, turn-events}
-use Rattle.job.specs.Packed.{packOf, packedOf}
+use Rattle.line.specs.Line.{firstLine, eventOf, wellSpelled}
+use Rattle.text.specs.Text.{limit, linesOf, badFrom, firstBad, eventsIn, eventsOf}
+use Rattle.line.specs.Ways.{lineLength}
+use Rattle.line.proofs.Formed.{asks-event, asks-length}
+use Rattle.line.proofs.LineLength.{short-attaches, long-asks}
+use Rattle.text.proofs.Walking.{formed, line-is, turn-events}
+use Rattle.packed.specs.Packed.{packOf, packedOf}
 use Rattle.job.specs.Ways.{packedSize}
 use Rattle.job.specs.Calls.{measureOf}
 use Rattle.job.proofs.Refusals.{text-long, text-bad, text-good}

@@ -5,10 +5,10 @@ use mathlib.Core.List.{List}
 use Prim.Native.Nat.{ℕ}
 use Rattle.refusal.specs.Order.{met, before, beforeAll, inOrder}
 use Rattle.refusal.specs.Delivery.{withOutput}
-use Rattle.text.specs.Event.{textOf}
-use Rattle.job.specs.Packed.{packedOf, unpacked}
-use Rattle.text.specs.Text.{eventsOf}
-use Rattle.job.specs.Calls.{textRefusals, writeRefusals}
+use Rattle.text.specs.Text.{textOf, eventsOf}
+use Rattle.packed.specs.Packed.{packedOf, unpacked}
+use Rattle.packed.specs.Calls.{writeRefusals}
+use Rattle.job.specs.Calls.{textRefusals}
 
 pub read-in-order : (t out : List ℕ) → inOrder (withOutput (textRefusals t) (packedOf (eventsOf t)) out) ≡ true
 unfolding met before beforeAll inOrder

@@ -9,12 +9,13 @@ use lib.Seq.{sets}
 use Rattle.laws.specs.Bytes.{put}
 use Rattle.laws.proofs.Bytes.{sets-put, rest-is}
 use Rattle.laws.proofs.Append.{sets-append}
-use Rattle.text.specs.Event.{Event}
-use Rattle.job.specs.Packed.{packOf, packedOf}
-use Rattle.text.specs.Ways.{lineLength}
+use Rattle.line.specs.Event.{Event}
+use Rattle.packed.specs.Packed.{packOf, packedOf}
+use Rattle.line.specs.Ways.{lineLength}
 use Rattle.job.specs.Ways.{packedSize}
-use Rattle.text.specs.Text.{firstLine, eventOf, wellSpelled, firstBad, eventsOf}
-use Rattle.text.proofs.LineLength.{length-good}
+use Rattle.line.specs.Line.{firstLine, eventOf, wellSpelled}
+use Rattle.text.specs.Text.{firstBad, eventsOf}
+use Rattle.line.proofs.LineLength.{length-good}
 use Rattle.job.proofs.Measuring.{size-packed, turn-packed, turn-total}
 use Rattle.text.proofs.WalkEvents.{Beyond, formed-here, beyond-here, events-end}
 

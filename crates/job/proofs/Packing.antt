@@ -11,10 +11,10 @@ use Rattle.laws.proofs.Bytes.{sets-put}
 use Rattle.laws.proofs.Append.{sets-append, part-put}
 use Rattle.request.specs.Setup.{setupOf, dataLength}
 use Rattle.hex.specs.Hex.{bytesOf}
-use Rattle.job.specs.Packed.{packOf}
-use Rattle.text.specs.Text.{firstLine, eventOf}
-use Rattle.text.proofs.Formed.{Asks, asks-size, asks-event, asks-length, asks-setup, asks-data, asks-spells}
-use Rattle.text.proofs.LineLength.{Attaches}
+use Rattle.packed.specs.Packed.{packOf}
+use Rattle.line.specs.Line.{firstLine, eventOf}
+use Rattle.line.proofs.Formed.{Asks, asks-size, asks-event, asks-length, asks-setup, asks-data, asks-spells}
+use Rattle.line.proofs.LineLength.{Attaches}
 
 asks-packed : {u : List ℕ} → (x : Asks u) → packOf (eventOf (firstLine u)) ≡ 1 ∷ (x .a ++ x .b)
 unfolding packOf

@@ -10,16 +10,19 @@ use Rattle.laws.specs.Lists.{allBytes}
 use Rattle.refusal.specs.declared.Refusal.the-variants.{Line}
 use Rattle.refusal.specs.declared.Done.{Done}
 use Rattle.refusal.specs.declared.Done.the-variants.{Bytes, Refused}
-use Rattle.text.specs.Event.{Event, proper, textOf}
-use Rattle.job.specs.Packed.{packedOf, unpacked}
-use Rattle.text.specs.Text.{limit, linesOf, firstBad, eventsOf}
+use Rattle.line.specs.Event.{Event}
+use Rattle.text.specs.Text.{limit, proper, textOf, linesOf, firstBad, eventsOf}
+use Rattle.packed.specs.Packed.{packedOf, unpacked}
 use Rattle.refusal.specs.Delivery.{inNumbers, delivery, delivered}
-use Rattle.job.specs.Calls.{textRefusals, measureOf, readOf, writeRefusals, writeOf}
+use Rattle.packed.specs.Calls.{writeRefusals, writeOf}
+use Rattle.job.specs.Calls.{textRefusals, measureOf, readOf}
 use Rattle.text.proofs.EventText.{text-clean, text-events, good-text, good-proper, Names, named-from-one}
-use Rattle.job.proofs.EventPacked.{packed-packs, packed-events, packs-packed, packs-proper}
+use Rattle.packed.proofs.EventPacked.{packed-packs, packed-events, packs-packed, packs-proper}
 use Rattle.refusal.proofs.Delivery.{numbers-injective, delivery-injective, delivers-refusal, delivers-output}
-use Rattle.job.proofs.Refusals.{text-bad, text-good, packed-whole, write-within}
-use Rattle.job.proofs.Answers.{read-bytes, write-bytes, never-ten}
+use Rattle.packed.proofs.Refusals.{packed-whole, write-within}
+use Rattle.job.proofs.Refusals.{text-bad, text-good}
+use Rattle.packed.proofs.Answers.{write-bytes}
+use Rattle.job.proofs.Answers.{read-bytes, never-ten}
 
 -- Two lists of proper events with the same text are the same list.
 pub text-of-injective : (es fs : List Event) → proper es ≡ true → proper fs ≡ true → textOf es ≡ textOf fs → es ≡ fs

@@ -1,17 +1,16 @@
--- What the calls answer, and what the lent buffer holds then. Document 01, "Job text" and "Refusal numbers". Assumes nothing.
+-- What the reader answers and leaves in the buffer. Document 01, "Job text" and "Refusal numbers". Assumes nothing.
 use mathlib.Core.Bool.{Bool, not}
-use mathlib.Core.List.{List, [], _∷_, _++_}
+use mathlib.Core.List.{List, [], _∷_}
 use Prim.Native.Nat.{ℕ}
 use lib.Dec.{eqb, ltb}
 use lib.ListN.{length}
 use Rattle.refusal.specs.declared.Refusal.{Refusal}
-use Rattle.refusal.specs.declared.Refusal.the-variants.{Text, Line, Request}
+use Rattle.refusal.specs.declared.Refusal.the-variants.{Text, Line}
 use Rattle.refusal.specs.declared.Done.{Done}
 use Rattle.refusal.specs.Order.{firstOf}
 use Rattle.refusal.specs.Delivery.{Delivery, counted, delivered}
-use Rattle.text.specs.Event.{textOf}
-use Rattle.job.specs.Packed.{packedOf, packs, unpacked}
 use Rattle.text.specs.Text.{limit, firstBad, eventsOf}
+use Rattle.packed.specs.Packed.{packedOf}
 
 -- rows 9 and 10
 abbrev pub textRefusals : List ℕ → List (Refusal × Bool)
@@ -27,15 +26,3 @@ measureOf t = counted (firstOf (textRefusals t)) (length (packedOf (eventsOf t))
 -- the reader: 9, 10, 11
 unfoldable pub readOf : List ℕ → List ℕ → Delivery
 readOf t out = delivered (textRefusals t) (packedOf (eventsOf t)) out
-
--- "The text writer gives 5 for a packed list with another kind byte or one that ends inside an event"
-abbrev pub packedRefusals : List ℕ → List (Refusal × Bool)
-packedRefusals p = (Request, not (packs p)) ∷ []
-
--- "before 9 and 11": row 9 behind it
-abbrev pub writeRefusals : List ℕ → List (Refusal × Bool)
-writeRefusals p = packedRefusals p ++ ((Text, ltb limit (length (textOf (unpacked p)))) ∷ [])
-
--- the text writer: 5, 9, 11
-unfoldable pub writeOf : List ℕ → List ℕ → Delivery
-writeOf p out = delivered (writeRefusals p) (textOf (unpacked p)) out

@@ -1,3 +1,2 @@
-pub mod Packed
 pub mod Calls
 pub mod Ways

@@ -10,7 +10,7 @@ use Rattle.laws.specs.Bytes.{put}
 use Rattle.laws.proofs.Bytes.{put-seam}
 use Rattle.laws.proofs.Split.{by-eq}
 use Rattle.board.specs.Layout.{pageBytes}
-use Rattle.text.specs.Event.{Event, request}
+use Rattle.line.specs.Event.{Event, request}
 use Rattle.plan.specs.Plan.{download, padded}
 use Rattle.plan.specs.Parts.{polledText, Laid, sentBytes, paddedLength}
 use Rattle.plan.proofs.Lines.{padded-one, padded-more, padded-length}

@@ -7,8 +7,9 @@ use lib.ListN.{length, length-append}
 use borrow.Author.Tests.{eq-eqb, ne-eqb}
 use Rattle.laws.proofs.Split.{by-eq}
 use Rattle.board.specs.Layout.{pageBytes, flashFirst}
-use Rattle.text.specs.Event.{Event, request, lineOf, textOf}
-use Rattle.text.proofs.SpellLine.{line-length-of}
+use Rattle.line.specs.Event.{Event, request, lineOf}
+use Rattle.text.specs.Text.{textOf}
+use Rattle.line.proofs.SpellLine.{line-length-of}
 use Rattle.request.specs.Spelled.{four}
 use Rattle.plan.specs.Plan.{download, getStatus, polled, pageAddress, erasePage, setPointer, padded, pageOf}
 use Rattle.plan.specs.Parts.{polledText, pageText, leavingText, statusLineBytes, sentBytes, leavingBytes, paddedLength, pageLines}

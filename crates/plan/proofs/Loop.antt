@@ -9,7 +9,7 @@ use lib.Seq.{sets}
 use Rattle.laws.specs.Bytes.{put}
 use Rattle.laws.proofs.Append.{sets-append}
 use Rattle.laws.proofs.Bytes.{sets-put}
-use Rattle.text.specs.Event.{textOf}
+use Rattle.text.specs.Text.{textOf}
 use Rattle.board.specs.Layout.{pagesOf}
 use Rattle.plan.specs.Plan.{download, polled, pageAddress, erasePage, setPointer, padded, pageOf, pagesFrom, planEvents, planOf}
 use Rattle.plan.specs.Parts.{polledText, pageText, restText, leavingText, Laid, leavingBytes, pageLines}

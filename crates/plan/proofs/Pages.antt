@@ -20,7 +20,7 @@ use Rattle.mode.specs.Wire.{isMode}
 use Rattle.mode.specs.Table.{allowedOf}
 use Rattle.laws.specs.Lists.{allBytes}
 use Rattle.flash.specs.Flash.{kept, stored}
-use Rattle.text.specs.Event.{Event}
+use Rattle.line.specs.Event.{Event}
 use Rattle.verdict.specs.World.{Fresh}
 use Rattle.verdict.specs.Checked.{workBytes}
 use Rattle.cells.specs.Cells.{blockFrom, known, pageErased, begun, overOf}

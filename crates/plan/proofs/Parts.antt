@@ -9,7 +9,7 @@ use Rattle.laws.specs.Bytes.{put}
 use Rattle.laws.proofs.Append.{sets-append}
 use Rattle.laws.proofs.Bytes.{sets-put, rest-is, take-at-most}
 use Rattle.board.specs.Layout.{pageBytes, flashFirst}
-use Rattle.text.specs.Event.{request, lineOf}
+use Rattle.line.specs.Event.{request, lineOf}
 use Rattle.plan.specs.Plan.{download, getStatus, pageAddress, erasePage, setPointer, padded, pageOf}
 use Rattle.plan.specs.Parts.{polledText, pageText, leavingText, Laid, statusLineBytes, sentBytes, leavingBytes, paddedLength, pageLines}
 use Rattle.plan.proofs.Lines.{line-fits, line-count, status-length, polled-text, command-length, leaving-text, leave-length}

@@ -4,7 +4,8 @@ use mathlib.Core.List.{List, [], _∷_, _++_}
 use Prim.Native.Nat.{ℕ}
 use lib.ListN.{length}
 use Rattle.hex.specs.Hex.{hexOf, digitOf}
-use Rattle.text.specs.Event.{lineOf, textOf}
+use Rattle.line.specs.Event.{lineOf}
+use Rattle.text.specs.Text.{textOf}
 use Rattle.plan.specs.Plan.{pagesFrom, planEvents, planOf}
 
 -- Q>2101000000000500>4100000008

@@ -11,9 +11,10 @@ use Rattle.laws.proofs.Split.{by-bool}
 use Rattle.board.specs.Layout.{pageBytes, flashFirst, pagesOf}
 use Rattle.request.specs.Setup.{setupOf, dataLength, fitsOf}
 use Rattle.laws.specs.Lists.{allBytes}
-use Rattle.text.specs.Event.{Event, fits, inBytes, proper}
+use Rattle.line.specs.Event.{Event, fits, inBytes}
+use Rattle.text.specs.Text.{proper}
 use Rattle.laws.proofs.Lists.{bytes-append, bytes-take, bytes-drop}
-use Rattle.text.proofs.Formed.{fits-if}
+use Rattle.line.proofs.Formed.{fits-if}
 use Rattle.cells.proofs.Events.{Fitting}
 use Rattle.cells.proofs.Runs.{AllFit}
 use Rattle.request.specs.Spelled.{two, four}

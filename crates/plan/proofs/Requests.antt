@@ -32,7 +32,7 @@ use Rattle.action.specs.declared.Action.the-variants.{Point, Erase, StoreFlash}
 use Rattle.access.specs.Access.{accessOf, blockAddress, blockAccess}
 use Rattle.action.specs.Action.{actionIn, actionOf, movedOf, rebootsOf}
 use Rattle.flash.specs.Flash.{stored}
-use Rattle.text.specs.Event.{Event}
+use Rattle.line.specs.Event.{Event}
 use Rattle.cells.specs.Cells.{blockFrom, blockOf, surely, pageErased, worked, workedOf, goes, statusMoves, decisionMoves, requestMoves, moves, overOf}
 use Rattle.request.specs.Spelled.{two, four}
 use Rattle.plan.specs.Plan.{download, getStatus, polled, pageAddress, erasePage, setPointer}

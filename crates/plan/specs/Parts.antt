@@ -7,7 +7,8 @@ use lib.Dec.{eqb}
 use lib.ListN.{length}
 use lib.Seq.{sets}
 use Rattle.board.specs.Layout.{pageBytes, flashBytes, pagesOf}
-use Rattle.text.specs.Event.{Event, textOf}
+use Rattle.line.specs.Event.{Event}
+use Rattle.text.specs.Text.{textOf}
 use Rattle.plan.specs.Plan.{download, polled, pageAddress, erasePage, setPointer, padded, pageOf, leaving, pagesFrom}
 
 -- the lines of an event and of the two GETSTATUS that follow it

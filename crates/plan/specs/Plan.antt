@@ -13,7 +13,8 @@ use Rattle.refusal.specs.declared.Admission.{Admission}
 use Rattle.refusal.specs.Order.{firstOf}
 use Rattle.refusal.specs.Delivery.{Delivery, delivered}
 use Rattle.board.specs.Supply.{supplyRefusals}
-use Rattle.text.specs.Event.{Event, request, textOf}
+use Rattle.line.specs.Event.{Event, request}
+use Rattle.text.specs.Text.{textOf}
 
 -- DNLOAD of the data xs with this wValue
 abbrev pub download : ℕ → List ℕ → Event

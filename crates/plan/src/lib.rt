@@ -10,7 +10,7 @@ ghost use lib.ListN.{length};
 ghost use lib.Seq.{sets};
 ghost use Rattle.laws.specs.Bytes.{put};
 ghost use Rattle.board.specs.Layout.{loggerPages, pageBytes};
-ghost use Rattle.text.specs.Event.{request, lineOf};
+ghost use Rattle.line.specs.Event.{request, lineOf};
 ghost use Rattle.refusal.specs.Delivery.{delivery};
 ghost use Rattle.request.specs.Spelled.{four};
 ghost use Rattle.plan.specs.Plan.{download, getStatus, padded, planOf, barred, planned};
@@ -67,7 +67,7 @@ fn poll(out: &mut [u8], at: usize) -> usize
     ensures { λ r. ⌜ Laid (now (out .entry)) at (lineOf getStatus) statusLineBytes (now (out .exit)) r ⌝ }
 {
     let setup = [0xA1, 3, 0, 0, 0, 0, 6, 0];
-    at + text::write_request(&setup, out, at)
+    at + line::write_request(&setup, out, at)
 }
 
 // Writes the line of a request and of two GETSTATUS after it, and gives the place behind them.
@@ -75,7 +75,7 @@ fn send(bytes: &[u8], out: &mut [u8], at: usize) -> usize
     requires { ⌜ (8 ≤ length (now bytes)) × (at + sentBytes (length (now bytes) - 8) ≤ length (now out)) ⌝ }
     ensures { λ r. ⌜ Laid (now (out .entry)) at (polledText (request (now (bytes .entry)))) (sentBytes (length (now (bytes .entry)) - 8)) (now (out .exit)) r ⌝ }
 {
-    let first = at + text::write_request(bytes, out, at);
+    let first = at + line::write_request(bytes, out, at);
     let second = poll(out, first);
     poll(out, second)
 }
@@ -131,7 +131,7 @@ fn leave(out: &mut [u8], at: usize)
 {
     let pointed = command(POINT, Board::FLASH, out, at);
     let setup = [0x21, 1, 0, 0, 0, 0, 0, 0];
-    let left = pointed + text::write_request(&setup, out, pointed);
+    let left = pointed + line::write_request(&setup, out, pointed);
     poll(out, left);
 }
 

@@ -14,12 +14,12 @@ use refusal::Done;
 use refusal::Refusal;
 
 // One byte more than a job and a board may have, so that a longer file shows as such.
-const TEXT_ROOM: usize = job::LIMIT + 1;
+const TEXT_ROOM: usize = text::LIMIT + 1;
 
 const BOARD_ROOM: usize = change::MEMORY + 1;
 
 // A packed event has at most half the bytes of its line.
-const PACKED_ROOM: usize = job::LIMIT / 2;
+const PACKED_ROOM: usize = text::LIMIT / 2;
 
 // The arguments of a call that names both files: the program's own name is the first.
 const NAMED: usize = 3;

@@ -81,7 +81,7 @@ pub(crate) fn play(packed: &[u8], board: &[u8]) {
     let mut device = Device::START;
     let mut number = 0;
     let mut at = 0;
-    let mut size = job::piece_length(packed);
+    let mut size = packed::piece_length(packed);
     while 0 < size {
         let end = at + size;
         number += 1;
@@ -94,7 +94,7 @@ pub(crate) fn play(packed: &[u8], board: &[u8]) {
             &mut reply,
         );
         at = end;
-        size = job::piece_length(&packed[at..]);
+        size = packed::piece_length(&packed[at..]);
     }
     conclude(number, device, board, &memory);
 }

@@ -25,7 +25,7 @@ use Rattle.decision.specs.Decide.{decideOf}
 use Rattle.loader.specs.declared.Event.{Event}
 use Rattle.loader.specs.declared.Event.the-variants.{Attach, Request}
 use Rattle.loader.specs.Step.{stepOf, steps, admittedOf, sizesOf}
-use Rattle.job.specs.Packed.{eventIn}
+use Rattle.packed.specs.Packed.{eventIn}
 use Rattle.verdict.specs.World.{steppedOf}
 use Rattle.player.specs.Played.{playedOf}
 use Rattle.player.specs.Asked.{asked, waitsOf, askedOf}

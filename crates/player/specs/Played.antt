@@ -4,7 +4,7 @@ use Prim.Native.Nat.{ℕ}
 use Rattle.board.specs.Layout.{loggerPages}
 use Rattle.device.specs.declared.Device.{Device}
 use Rattle.loader.specs.Answer.{Outcome}
-use Rattle.job.specs.Packed.{eventIn}
+use Rattle.packed.specs.Packed.{eventIn}
 use Rattle.verdict.specs.World.{World, steppedOf}
 
 -- the board with this device, memory, block buffer and reply buffer

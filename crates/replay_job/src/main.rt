@@ -28,7 +28,7 @@ fn print(call: usize, done: Done, out: &[u8]) {
 // The call that a vector is about.
 fn call(kind: u8, input: &[u8], out: &mut [u8]) -> Done {
     if kind == head::WRITE {
-        return job::write(input, out);
+        return packed::write(input, out);
     }
     job::read(input, out)
 }

@@ -1,50 +1,19 @@
 -- Events and their text: each gives the other back, and the number of the first malformed line. Assumes nothing.
 use mathlib.Core.Path.{_≡_, refl, ap, ap₂, _∙_, sym}
 use mathlib.Core.Bool.{true, false, _&&_}
-use mathlib.Core.List.{List, [], _∷_, _++_, append-assoc}
+use mathlib.Core.List.{List, [], _∷_, _++_}
 use Prim.Native.Nat.{ℕ, zero, suc, _-_, _≤_, _<_}
 use native.Mathlib.Omega.{arith}
 use native.Mathlib.Nat.{not-suc-le-zero, le-of-suc-le-suc}
-use lib.Dec.{eqb}
-use lib.ListN.{length, take, drop, getD, length-append, take-append-drop}
-use lib.Seq.{length-take-le, drop-append-seam}
+use lib.ListN.{length, drop, getD, length-append}
+use lib.Seq.{drop-append-seam}
 use Rattle.laws.proofs.Split.{by-bool, and-true}
-use Rattle.request.proofs.Lengths.{fits-eight}
-use Rattle.hex.specs.Hex.{hexOf}
-use Rattle.hex.proofs.Fields.{digits-hex}
-use Rattle.text.specs.Event.{Event, attach, request, fits, inBytes, proper, lineOf, textOf}
-use Rattle.text.specs.Text.{firstLine, onto, linesOf, eventOf, wellSpelled, badFrom, firstBad, eventsIn, eventsOf}
-use Rattle.text.proofs.Spelling.{spells-hex, spelled}
-use Rattle.laws.proofs.Lists.{bytes-take, bytes-drop}
-use Rattle.text.proofs.FirstLine.{first-spelled, lines-first, joined}
-use Rattle.text.proofs.Formed.{formed-fits, formed-line, well-spelled, event-spelled, event-bytes}
-
--- the line of an event that fits gives the event back
-line-event : (e : Event) → fits e ≡ true → inBytes e ≡ true → eventOf (lineOf e) ≡ e
-unfolding fits inBytes eventOf lineOf
-line-event attach f y = refl
-line-event (request q) f y =
-    let a = spells-hex (take 8 q) (bytes-take 8 q y) in
-    let b = spells-hex (drop 8 q) (bytes-drop 8 q y) in
-    event-spelled a b (length-take-le 8 q (fits-eight q f)) ∙ ap request (take-append-drop 8 q)
-
-line-formed : (e : Event) → fits e ≡ true → inBytes e ≡ true → wellSpelled (lineOf e) ≡ true
-line-formed e f y = well-spelled (lineOf e) e (line-event e f y) f refl
-
--- the line of an event is the first line of a text that begins with it
-line-first : (e : Event) (s : List ℕ) → firstLine (lineOf e ++ s) ≡ lineOf e
-unfolding lineOf firstLine
-line-first attach s = refl
-line-first (request q) s =
-    let a = hexOf (take 8 q) in
-    let b = hexOf (drop 8 q) in
-    let e : spelled a b [] ++ s ≡ spelled a b s = simp append-assoc in
-    ap firstLine e ∙ first-spelled a b s (digits-hex (take 8 q)) (digits-hex (drop 8 q))
-
-line-some : (e : Event) → 0 < length (lineOf e)
-unfolding lineOf
-line-some attach = omega arith
-line-some (request q) = omega arith
+use Rattle.line.specs.Event.{Event, fits, inBytes, lineOf}
+use Rattle.text.specs.Text.{proper, textOf, linesOf, badFrom, firstBad, eventsIn, eventsOf}
+use Rattle.line.specs.Line.{firstLine, wellSpelled}
+use Rattle.text.proofs.Lines.{lines-first, joined, joined-lines}
+use Rattle.line.proofs.Formed.{formed-fits, formed-line, event-bytes}
+use Rattle.line.proofs.EventLine.{line-event, line-formed, line-first, line-some}
 
 lines-line : (e : Event) (s : List ℕ) → linesOf (lineOf e ++ s) ≡ lineOf e ∷ linesOf s
 lines-line e s =
@@ -78,19 +47,6 @@ text-events [] h = refl
 text-events (e ∷ es) h =
     let p = proper-parts e es h in
     rw (lines-line e (textOf es), line-event e (p .0) (p .1)) (ap (λ (fs : List Event). e ∷ fs) (text-events es (p .2)))
-
-joined-onto : (x : ℕ) (ls : List (List ℕ)) → joined (onto x ls) ≡ x ∷ joined ls
-unfolding joined onto
-joined-onto x [] = refl
-joined-onto x (l ∷ ls) = refl
-
-joined-lines : (t : List ℕ) → joined (linesOf t) ≡ t
-unfolding joined linesOf
-joined-lines [] = refl
-joined-lines (x ∷ t) =
-    by-bool (eqb x 10)
-    (λ e. rw e (ap (λ (l : List ℕ). x ∷ l) (joined-lines t)))
-    (λ e. rw e (joined-onto x (linesOf t) ∙ ap (λ (l : List ℕ). x ∷ l) (joined-lines t)))
 
 -- lines none of which is malformed: the first is well formed, and so are the others
 pub good-first : (l : List ℕ) (ls : List (List ℕ)) (k : ℕ) → badFrom (suc k) (l ∷ ls) ≡ 0 → (wellSpelled l ≡ true) × (badFrom (suc (suc k)) ls ≡ 0)

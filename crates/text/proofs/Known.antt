@@ -11,11 +11,11 @@ use Rattle.request.specs.Setup.{setupOf, dataLength}
 use Rattle.request.specs.declared.Setup.{Setup}
 use Rattle.hex.specs.Hex.{allDigits, bytesOf}
 use Rattle.text.specs.declared.Item.the-variants as item
-use Rattle.text.specs.Ways.{lineLength}
-use Rattle.text.specs.Text.{firstLine, wellSpelled}
+use Rattle.line.specs.Ways.{lineLength}
+use Rattle.line.specs.Line.{firstLine, wellSpelled}
 use Rattle.text.specs.Walk.{itemOf}
-use Rattle.text.proofs.Formed.{Asks, asks, asks-size, asks-length, asks-digits, asks-data}
-use Rattle.text.proofs.LineLength.{length-good, attaches}
+use Rattle.line.proofs.Formed.{Asks, asks, asks-size, asks-length, asks-digits, asks-data}
+use Rattle.line.proofs.LineLength.{length-good, attaches}
 use Rattle.text.proofs.Walking.{setup-here, setup-asked, item-attach, item-request}
 
 pub kind-here : (t : List ℕ) (at : ℕ) → getD (drop at t) 0 0 ≡ getD t at 0

@@ -1,10 +1,6 @@
-pub mod Fields
-pub mod Spelling
-pub mod FirstLine
-pub mod Formed
-pub mod LineLength
+pub mod Halves
+pub mod Lines
 pub mod Walking
 pub mod Known
 pub mod EventText
 pub mod WalkEvents
-pub mod SpellLine

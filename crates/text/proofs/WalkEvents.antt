@@ -12,12 +12,13 @@ use Rattle.request.specs.declared.Setup.{Setup}
 use Rattle.hex.specs.Hex.{allDigits, bytesOf}
 use Rattle.text.specs.declared.Item.{Item}
 use Rattle.text.specs.declared.Item.the-variants as item
-use Rattle.text.specs.Event.{Event, attach, request}
-use Rattle.text.specs.Text.{firstLine, linesOf, eventOf, wellSpelled, badFrom, firstBad, eventsIn, eventsOf}
+use Rattle.line.specs.Event.{Event, attach, request}
+use Rattle.line.specs.Line.{firstLine, eventOf, wellSpelled}
+use Rattle.text.specs.Text.{linesOf, badFrom, firstBad, eventsIn, eventsOf}
 use Rattle.text.specs.Walk.{itemOf}
-use Rattle.text.proofs.FirstLine.{first-some, first-length}
-use Rattle.text.proofs.Formed.{asks-event, asks-length, asks-whole, asks-body, asks-spells}
-use Rattle.text.proofs.LineLength.{attaches}
+use Rattle.line.proofs.FirstLine.{first-some, first-length}
+use Rattle.line.proofs.Formed.{asks-event, asks-length, asks-whole, asks-body, asks-spells}
+use Rattle.line.proofs.LineLength.{attaches}
 use Rattle.text.proofs.Walking.{some-left, lines-here, setup-asked, item-end}
 use Rattle.text.proofs.Known.{kind-here, known-attach, line-asks, counted, known-request}
 use Rattle.text.proofs.EventText.{good-first, bad-none}

@@ -1,37 +1,26 @@
 -- A walk over a text, line by line: what one turn of it does. Assumes nothing.
 use mathlib.Core.Path.{_≡_, ap, ap₂, _∙_, sym}
-use mathlib.Core.Bool.{true, false}
+use mathlib.Core.Bool.{true}
 use mathlib.Core.List.{List, _∷_, _++_}
 use Prim.Native.Nat.{ℕ, _+_, _-_, _≤_, _<_}
 use native.Mathlib.Omega.{arith}
 use native.Mathlib.Numerals.{add-one}
-use lib.ListN.{length, take, drop, getD, length-drop}
+use lib.ListN.{length, take, drop, length-drop}
 use lib.Seq.{drop-drop}
 use borrow.Author.Tests.{lt-leb, le-leb}
 use Rattle.laws.proofs.Bytes.{rest-is}
-use Rattle.laws.proofs.Split.{by-bool, by-eq}
 use Rattle.request.specs.Setup.{setupOf}
 use Rattle.request.specs.declared.Setup.{Setup}
 use Rattle.hex.specs.Hex.{allDigits, bytesOf}
 use Rattle.text.specs.declared.Item.the-variants as item
-use Rattle.text.specs.Event.{Event, attach, request}
-use Rattle.text.specs.Ways.{lineLength}
-use Rattle.text.specs.Text.{firstLine, linesOf, eventOf, wellSpelled, badFrom, eventsIn, eventsOf}
+use Rattle.line.specs.Event.{Event, attach, request}
+use Rattle.line.specs.Ways.{lineLength}
+use Rattle.line.specs.Line.{firstLine, eventOf, wellSpelled}
+use Rattle.text.specs.Text.{linesOf, badFrom, eventsIn, eventsOf}
 use Rattle.text.specs.Walk.{itemFor, itemOf}
-use Rattle.text.proofs.FirstLine.{first-some, lines-first}
-use Rattle.text.proofs.Formed.{Asks, asks, asks-event, asks-length, asks-setup, asks-whole, asks-digits}
-use Rattle.text.proofs.LineLength.{length-good, length-bad, Attaches, attaches}
-
--- a length that is not 0 is that of a well-formed line
-formed-if : (u : List ℕ) → (lineLength u ≡ 0 → ⊥) → wellSpelled (firstLine u) ≡ true
-formed-if u n = by-bool (wellSpelled (firstLine u)) (λ h. h) (λ h. absurd (n (sym (length-bad u h))))
-
--- and a length of 0 that of a malformed one
-malformed-if : (u : List ℕ) → 0 < length u → lineLength u ≡ 0 → wellSpelled (firstLine u) ≡ false
-malformed-if u s z =
-    by-bool (wellSpelled (firstLine u))
-    (λ h. let l : lineLength u ≡ length (firstLine u) = length-good u h in let w = first-some u s in absurd (omega arith))
-    (λ h. h)
+use Rattle.text.proofs.Lines.{lines-first}
+use Rattle.line.proofs.Formed.{Asks, asks-event, asks-setup, asks-whole, asks-digits}
+use Rattle.line.proofs.LineLength.{length-good, formed-if, malformed-if, short-attaches, long-asks}
 
 -- the digits of a setup, by their places in the text and in the line
 pub setup-here : (t : List ℕ) (at : ℕ) → take (at + 18 - (at + 2)) (drop (at + 2) t) ≡ take 16 (drop 2 (drop at t))
@@ -40,13 +29,6 @@ setup-here t at = let n : at + 18 - (at + 2) ≡ 16 = omega arith in ap₂ take 
 -- the setup that they spell is that of the request
 pub setup-asked : (t : List ℕ) (at : ℕ) (x : Asks (drop at t)) (s : Setup) → s ≡ setupOf (bytesOf (take (at + 18 - (at + 2)) (drop (at + 2) t))) → s ≡ setupOf (x .a)
 setup-asked t at x s e = e ∙ ap (λ (d : List ℕ). setupOf (bytesOf d)) (setup-here t at) ∙ ap setupOf (asks-setup x)
-
--- by its length a line is of `A` or of `Q`
-pub short-attaches : (u : List ℕ) → wellSpelled (firstLine u) ≡ true → length (firstLine u) < 20 → Attaches u
-short-attaches u h l = by-eq (getD u 0 0) 65 (attaches u h) (λ n. let x = asks u h n in let s = asks-length x in absurd (omega arith))
-
-pub long-asks : (u : List ℕ) → wellSpelled (firstLine u) ≡ true → 20 ≤ length (firstLine u) → Asks u
-long-asks u h l = by-eq (getD u 0 0) 65 (λ k. let s = ap length (attaches u h k .first) in absurd (omega arith)) (asks u h)
 
 pub some-left : (t : List ℕ) (at : ℕ) → at < length t → 0 < length (drop at t)
 some-left t at more = simp length-drop (omega arith)

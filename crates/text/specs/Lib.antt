@@ -1,4 +1,2 @@
-pub mod Event
 pub mod Text
 pub mod Walk
-pub mod Ways

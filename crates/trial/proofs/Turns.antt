@@ -16,7 +16,7 @@ use Rattle.request.specs.Request.{transferBytes}
 use Rattle.device.specs.declared.Device.{Device}
 use Rattle.loader.specs.declared.Stepped.{Stepped}
 use Rattle.loader.specs.Answer.{Outcome, left}
-use Rattle.job.specs.Ways.{pieceLength}
+use Rattle.packed.specs.Ways.{pieceLength}
 use Rattle.player.specs.Played.{playedOf}
 use Rattle.player.specs.Change.{firstChange}
 use Rattle.trial.specs.declared.Scene.{Scene}

@@ -16,7 +16,7 @@ use Rattle.device.specs.declared.Device.{Device}
 use Rattle.device.specs.State.{started}
 use Rattle.access.specs.Access.{blockAddress}
 use Rattle.loader.specs.Answer.{Outcome}
-use Rattle.job.specs.Ways.{pieceLength}
+use Rattle.packed.specs.Ways.{pieceLength}
 use Rattle.player.specs.Played.{playedOf}
 use Rattle.player.specs.Change.{firstChange}
 use Rattle.trial.specs.declared.Scene.{Scene}

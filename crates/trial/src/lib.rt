@@ -135,7 +135,7 @@ fn turn(
     ensures { λ r. ⌜ (life r (now (memory .exit)) (now (block .exit)) (now (reply .exit)) ≡ turnOf (now (packed .entry)) place line (life scene (now (memory .entry)) (now (block .entry)) (now (reply .entry)))) × (r .at ≤ length (now (packed .entry))) ⌝ }
 {
     let at = scene.at;
-    let end = at + job::piece_length(&packed[at..]);
+    let end = at + packed::piece_length(&packed[at..]);
     let stepped = player::step(scene.device, &packed[at..end], memory, block, reply);
     let byte = buffer::byte_at(memory, place);
     next(scene, line, end, stepped.device, byte)

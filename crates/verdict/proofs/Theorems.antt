@@ -11,7 +11,7 @@ use Rattle.board.specs.Layout.{flashFirst, flashBytes}
 use Rattle.refusal.specs.declared.Refusal.{Refusal}
 use Rattle.refusal.specs.declared.Admission.the-variants as admission
 use Rattle.refusal.specs.declared.Done.{Done}
-use Rattle.text.specs.Event.{Event}
+use Rattle.line.specs.Event.{Event}
 use Rattle.text.specs.Text.{eventsOf}
 use Rattle.refusal.specs.Delivery.{delivery, delivered}
 use Rattle.refusal.proofs.First.{by-admission, First, first-exactly}

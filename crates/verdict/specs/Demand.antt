@@ -5,7 +5,7 @@ use mathlib.Core.List.{List}
 use Prim.Native.Nat.{ℕ, _≤_, _<_}
 use lib.ListN.{length, drop, getD}
 use Rattle.board.specs.Layout.{flashFirst, flashBytes, optionsFrom}
-use Rattle.text.specs.Event.{Event}
+use Rattle.line.specs.Event.{Event}
 use Rattle.verdict.specs.World.{World, Fresh, after, failsAt}
 use Rattle.verdict.specs.Verdict.{isLeft, pagesEnd}
 

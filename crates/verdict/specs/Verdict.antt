@@ -10,7 +10,7 @@ use Rattle.device.specs.declared.Device.{Device}
 use Rattle.mode.specs.declared.Mode.{Mode}
 use Rattle.mode.specs.declared.Mode.the-variants.{Idle, DownloadSync, DownloadBusy, DownloadIdle, ManifestSync, UploadIdle, Error, Left, Rebooting}
 use Rattle.laws.specs.Lists.{same}
-use Rattle.text.specs.Event.{Event}
+use Rattle.line.specs.Event.{Event}
 use Rattle.verdict.specs.declared.Verdict.{Verdict}
 use Rattle.verdict.specs.declared.Verdict.the-variants as verdict
 use Rattle.verdict.specs.World.{World, Fresh, after, failsAt}

@@ -15,7 +15,7 @@ use Rattle.loader.specs.declared.Event.the-variants as event
 use Rattle.loader.specs.Answer.{replyTold, stallTold, silentTold, Outcome}
 use Rattle.loader.specs.Step.{stepOf}
 use Rattle.laws.specs.Lists.{allBytes}
-use Rattle.text.specs.Event.{Event, attach, request}
+use Rattle.line.specs.Event.{Event, attach, request}
 
 -- a board at some moment: the loader's state, and what it was lent
 pub record World : Type 0 where

@@ -2,7 +2,7 @@
 use native.Mathlib.Omega.{arith}
 use Rattle.job.proofs.PackLoop.{next-formed, next-beyond, next-total, next-laid, next-room, pack-end}
 use Rattle.text.specs.Text.{firstBad, eventsOf}
-use Rattle.job.specs.Packed.{packedOf}
+use Rattle.packed.specs.Packed.{packedOf}
 use lib.Seq.{sets}
 use lib.ListN.{length, drop}
 use Prim.Native.Nat.{_+_, _-_, _≤_, _<_}

@@ -1,6 +1,6 @@
 -- `job::pack_line` meets its contract. Assumes nothing.
 use Rattle.job.proofs.Packing.{attach-room, attach-packed}
-use Rattle.text.proofs.LineLength.{Attaches, attaches}
+use Rattle.line.proofs.LineLength.{Attaches, attaches}
 use mathlib.Core.Path.{refl, sym, _∙_}
 use borrow.Author.Needs.{needs}
 use Rattle.job.proofs.pack_line.Statement.{statement}

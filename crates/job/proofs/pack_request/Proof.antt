@@ -1,7 +1,7 @@
 -- `job::pack_request` meets its contract. Assumes nothing.
 use native.Mathlib.Omega.{arith}
 use Rattle.job.proofs.Packing.{asks-room, count-is, request-packed}
-use Rattle.text.proofs.Formed.{Asks, asks, asks-digits, asks-body}
+use Rattle.line.proofs.Formed.{Asks, asks, asks-digits, asks-body}
 use Rattle.request.specs.Setup.{dataLength}
 use lib.ListN.{length, length-set}
 use Prim.Native.Nat.{_+_, _*_, _≤_}

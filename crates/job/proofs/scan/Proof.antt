@@ -3,7 +3,7 @@ use native.Mathlib.Omega.{arith}
 use Rattle.text.proofs.Walking.{turn-bad, turn-good}
 use Rattle.job.proofs.Measuring.{walk-bad, walk-end, turn-total}
 use Rattle.text.specs.Text.{linesOf, badFrom, firstBad, eventsOf}
-use Rattle.job.specs.Packed.{packedOf}
+use Rattle.packed.specs.Packed.{packedOf}
 use borrow.Author.Needs.{needs}
 use lib.ListN.{length, drop}
 use Prim.Native.Nat.{_+_, _-_, _≤_}

@@ -3,7 +3,7 @@ use mathlib.Core.Path.{_∙_}
 use native.Mathlib.Omega.{arith}
 use lib.ListN.{length-take, length-drop}
 use Rattle.hex.proofs.Fields.{digits-take, digits-drop}
-use Rattle.text.proofs.Fields.{setup-halves}
+use Rattle.text.proofs.Halves.{setup-halves}
 use borrow.Author.Needs.{needs}
 use Rattle.text.proofs.setup.Statement.{statement}
 use Rattle.text.proofs.setup.Tie as tie
@@ -70,8 +70,7 @@ returns : tie.Need-returns
 returns c =
     let b = c .before .before in
     let f = b .before .before in
-    let s = f .before .before .before in
-    c .of .ensures ∙ setup-halves _ (s .pre .0) _ _ (f .four .ensures) (b .four2 .ensures)
+    c .of .ensures ∙ setup-halves _ _ _ (f .four .ensures) (b .four2 .ensures)
 
 pub setup-spec : {M : Type 1} → statement M
 setup-spec =

@@ -1,0 +1,3 @@
+pub mod Packed
+pub mod Calls
+pub mod Ways
