@@ -9,7 +9,7 @@ use Rattle.board.specs.declared.Place.the-variants.{Flash, Ram, Options, Outsid
 use Rattle.board.specs.Layout.{optionsFrom, optionBytes}
 use Rattle.board.specs.Span.{placeOf}
 use Rattle.mode.specs.declared.Mode.the-variants.{Error}
-use Rattle.device.specs.WellFormed.{statusFits}
+use Rattle.states.specs.WellFormed.{statusFits}
 use Rattle.access.specs.declared.Access.{Access}
 use Rattle.access.specs.declared.Access.the-variants.{Denied, InFlash, InRam, InOptions}
 use Rattle.access.specs.Access.{blockAddress, checkedOf, accessOf, blockAccess}

@@ -14,7 +14,7 @@ use Rattle.action.specs.declared.Action.{Action}
 use Rattle.action.specs.declared.Action.the-variants.{Rest, Fail, Point, Erase, EraseAll, Unprotect, ClearRam, StoreFlash, StoreRam, StoreOptions}
 use Rattle.device.specs.declared.Ran.{Ran}
 use Rattle.mode.specs.Wire.{errTARGET, errVENDOR}
-use Rattle.device.specs.WellFormed.{inRegion}
+use Rattle.states.specs.WellFormed.{inRegion}
 use Rattle.access.specs.Access.{blockAccess}
 
 -- "Set pointer: outside every region is 1; read protection does not matter"

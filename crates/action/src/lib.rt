@@ -48,7 +48,7 @@ pub fn intend(board: Board, protected: bool, device: Device) -> Action
 fn point(board: Board, address: u32) -> Action
     ensures { λ r. ⌜ r ≡ pointOf (board .pages) address ⌝ }
 {
-    if device::in_region(board, address) {
+    if states::in_region(board, address) {
         return Action::Point(address);
     }
     Action::Fail(Device::TARGET)

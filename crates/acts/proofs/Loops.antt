@@ -11,7 +11,7 @@ use lib.Seq.{drop-set-lt, getD-take, getD-drop, length-take-le, sets}
 use Rattle.laws.specs.Bytes.{put, filled}
 use Rattle.laws.proofs.Bytes.{sets-turn, sets-end, sets-put}
 use Rattle.board.specs.Layout.{pageBytes}
-use Rattle.board.specs.Protection.{writeProtected}
+use Rattle.protection.specs.Protection.{writeProtected}
 use Rattle.flash.specs.Flash.{kept, each, stored}
 use Rattle.flash.proofs.Flash.{stored-open, stored-kept, stored-end}
 use Rattle.cells.specs.Cells.{marked, learnt, blockFrom, blockOf, pageErased, pagesErased}

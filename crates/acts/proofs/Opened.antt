@@ -14,8 +14,8 @@ use Rattle.laws.proofs.Bytes.{put-length}
 use Rattle.laws.proofs.Append.{put-behind, put-apart}
 use Rattle.laws.proofs.Split.{and-true}
 use Rattle.board.specs.Layout.{pageBytes, flashBytes, memoryBytes}
-use Rattle.board.specs.Protection.{writeProtected, anyProtected}
-use Rattle.board.proofs.Protection.{none-parts, none-at}
+use Rattle.protection.specs.Protection.{writeProtected, anyProtected}
+use Rattle.protection.proofs.Protection.{none-parts, none-at}
 use Rattle.request.specs.Request.{transferBytes}
 use Rattle.flash.specs.Flash.{kept, each, blank, laid, stored}
 use Rattle.verdict.specs.Checked.{workBytes}

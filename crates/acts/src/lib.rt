@@ -6,7 +6,7 @@ ghost use Prim.Native.Nat.{_+_, _*_, _≤_};
 ghost use lib.ListN.{length, drop, replicate};
 ghost use Rattle.laws.specs.Bytes.{put};
 ghost use Rattle.board.specs.Layout.{pageBytes, flashBytes, ramFrom, ramBytes, memoryBytes};
-ghost use Rattle.board.specs.Protection.{anyProtected};
+ghost use Rattle.protection.specs.Protection.{anyProtected};
 ghost use Rattle.request.specs.Request.{transferBytes};
 ghost use Rattle.loader.specs.Inner.{endOf, countOf};
 ghost use Rattle.flash.specs.Flash.{each, stored};
@@ -25,7 +25,9 @@ fn is_known(board: Board, work: &[u8], word: u32, at: usize, count: usize) -> bo
     let end = at + count;
     let mut i = at;
     while i < end {
-        if marks::mark_of(board, work, i) != 1 && !board::write_protected(word, i / Board::PAGE) {
+        if marks::mark_of(board, work, i) != 1
+            && !protection::write_protected(word, i / Board::PAGE)
+        {
             return false;
         }
         i += 1;
@@ -38,7 +40,7 @@ fn erase(board: Board, work: &mut [u8], word: u32, page: usize)
     requires { ⌜ ((page + 1) * pageBytes ≤ memoryBytes (board .pages)) × (length (now work) ≡ workBytes (board .pages)) ⌝ }
     ensures { λ _. ⌜ now (work .exit) ≡ pageErased (board .pages) word page (now (work .entry)) ⌝ }
 {
-    if board::write_protected(word, page) {
+    if protection::write_protected(word, page) {
         return;
     }
     let from = page * Board::PAGE;
@@ -75,7 +77,7 @@ fn erase_all(board: Board, work: &mut [u8], word: u32)
     requires { ⌜ length (now work) ≡ workBytes (board .pages) ⌝ }
     ensures { λ _. ⌜ now (work .exit) ≡ pagesErased (board .pages) word (board .pages) 0 (now (work .entry)) ⌝ }
 {
-    if board::any_protected(word, board.pages as usize) {
+    if protection::any_protected(word, board.pages as usize) {
         erase_pages(board, work, word);
         return;
     }
@@ -90,7 +92,7 @@ fn store(board: Board, work: &mut [u8], word: u32, at: usize, count: usize)
     let block = marks::block_from(board);
     let mut i = 0;
     while i < count {
-        if !board::write_protected(word, (at + i) / Board::PAGE) {
+        if !protection::write_protected(word, (at + i) / Board::PAGE) {
             work[at + i] = work[block + i];
         }
         i += 1;
@@ -117,7 +119,7 @@ fn is_open(board: Board, word: u32, end: usize) -> bool
     if board.flash_bytes() < end {
         return false;
     }
-    !board::any_protected(word, board.pages as usize)
+    !protection::any_protected(word, board.pages as usize)
 }
 
 // A write to flash that spares write-protected pages: on every board, or on some board an error.
@@ -173,11 +175,12 @@ fn unprotect(board: Board, work: &mut [u8])
     marks::mark(board, work, 0, bytes, 1);
 }
 
+// The RAM, which begins where flash ends, becomes zero and known.
 fn clear_ram(board: Board, work: &mut [u8])
     requires { ⌜ length (now work) ≡ workBytes (board .pages) ⌝ }
     ensures { λ _. ⌜ now (work .exit) ≡ learnt (board .pages) (ramFrom (board .pages)) (replicate ramBytes 0) (now (work .entry)) ⌝ }
 {
-    let from = board.ram_from();
+    let from = board.flash_bytes();
     let to = from + Board::RAM_BYTES;
     buffer::fill(work, from, to, 0);
     marks::mark(board, work, from, to, 1);
@@ -188,7 +191,7 @@ pub fn act(board: Board, action: Action, work: &mut [u8]) -> u8
     requires { ⌜ (length (now work) ≡ workBytes (board .pages)) × (endOf action ≤ memoryBytes (board .pages)) × (countOf action ≤ transferBytes) ⌝ }
     ensures { λ r. ⌜ worked r (now (work .exit)) ≡ workedOf (board .pages) action (now (work .entry)) ⌝ }
 {
-    let word = board.protection_word(work);
+    let word = protection::protection_word(board, work);
     match action {
         Action::Rest => 0,
         Action::Fail(status) => status,

@@ -43,7 +43,7 @@ fn ended(condition: u8, packed: &[u8], card: &[u8]) {
         byte: option.byte,
         wanted: buffer::byte_at(card, number),
         line: option.changed,
-        is_protected: board::locked(card, 0),
+        is_protected: protection::locked(card, 0),
     };
     ends::explain(condition, scene, found, cause.device);
 }
@@ -79,7 +79,7 @@ fn differs(offset: usize, packed: &[u8], image: &[u8], card: &[u8]) {
         zero: zero.byte,
         erased: erased.byte,
         want: wanted(offset, image),
-        is_locked: board::write_protected(board::word(card, 0), page),
+        is_locked: protection::write_protected(protection::word(card, 0), page),
         line: guard.changed,
     };
     flash::explain(found, line, cause.device);

@@ -8,7 +8,7 @@ use lib.ListN.{length, getD, List·getD-eq-default}
 use borrow.Author.Tests.{ne-eqb}
 use Rattle.laws.specs.Bytes.{put}
 use Rattle.board.specs.Layout.{memoryBytes, optionsFrom, optionBytes}
-use Rattle.board.specs.Protection.{readProtected}
+use Rattle.protection.specs.Protection.{readProtected}
 use Rattle.request.specs.declared.Setup.{Setup}
 use Rattle.device.specs.declared.Device.{Device}
 use Rattle.device.specs.declared.Ran.{Ran}

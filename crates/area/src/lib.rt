@@ -6,7 +6,7 @@ ghost use Prim.Native.Nat.{ℕ, _*_, _<_};
 ghost use lib.ListN.{length, getD};
 ghost use Rattle.board.specs.Layout.{optionBytes};
 ghost use Rattle.request.specs.Setup.{dataLength};
-ghost use Rattle.device.specs.WellFormed.{wellFormed};
+ghost use Rattle.states.specs.WellFormed.{wellFormed};
 ghost use Rattle.command.specs.Command.{commandOf};
 ghost use Rattle.decision.specs.Decide.{decideOf, isStatus};
 ghost use Rattle.hex.specs.Hex.{allDigits, bytesOf};
@@ -56,7 +56,7 @@ fn status(board: Board, device: Device, work: &mut [u8]) -> Step
     if mode.wire() != 3 {
         return report(device, device.nothing_ran());
     }
-    let protected = board.read_protected(work);
+    let protected = protection::read_protected(board, work);
     let action = action::intend(board, protected, device);
     let status = acts::act(board, action, work);
     report(device, action.ran(device.pointer, status))
@@ -76,7 +76,7 @@ fn report(device: Device, ran: Ran) -> Step
 fn upload(board: Board, device: Device, setup: Setup, work: &[u8]) -> Step
     ensures { λ r. ⌜ movedAs r (now (work .entry)) ≡ readsMoves (board .pages) device setup (now (work .entry)) ⌝ }
 {
-    let protected = board.read_protected(work);
+    let protected = protection::read_protected(board, work);
     let count = setup.length;
     let access = access::examine_block(board, protected, setup.value, count, device.pointer);
     match access {

@@ -5,13 +5,13 @@ use lib.ListN.{take, getD, replicate}
 use Rattle.laws.specs.Bytes.{put, filled}
 use Rattle.board.specs.Layout.{loggerPages}
 use Rattle.board.specs.Span.{spans, placeOf}
-use Rattle.board.specs.Protection.{lockedFrom, wordFrom, readProtected, wordOf, writeProtected}
+use Rattle.protection.specs.Protection.{lockedFrom, wordFrom, readProtected, wordOf, writeProtected}
 use Rattle.request.specs.Request.{transferBytes, outwardOf, inwardOf, requestOf}
 use Rattle.request.specs.Setup.{setupOf, dataLength, fitsOf}
 use Rattle.mode.specs.declared.Mode.{Mode}
 use Rattle.mode.specs.Table.{allowedOf}
 use Rattle.device.specs.State.{started, afterStatus, reportOf}
-use Rattle.device.specs.WellFormed.{inRegion, wellFormed}
+use Rattle.states.specs.WellFormed.{inRegion, wellFormed}
 use Rattle.command.specs.Command.{commandOf}
 use Rattle.decision.specs.Decide.{commandedOf, downloadOf, decideOf}
 use Rattle.access.specs.Access.{blockAddress, accessOf, blockAccess}

@@ -1,3 +1,2 @@
 pub mod Span
-pub mod Protection
 pub mod Supply

@@ -1,4 +1,3 @@
 pub mod Layout
 pub mod Span
-pub mod Protection
 pub mod Supply

@@ -1,10 +1,9 @@
-// The board: where its regions lie, what is protected, and which span of addresses lies where.
+// The board: where its regions lie, and which span of addresses lies where.
 ghost use mathlib.Core.Path.{_≡_};
 ghost use lib.ListN.{length};
-ghost use Rattle.board.specs.Layout.{pagesOf, flashBytes, ramFrom, optionsFrom, memoryBytes, defaults};
+ghost use Rattle.board.specs.Layout.{pagesOf, flashBytes, optionsFrom, memoryBytes, defaults};
 ghost use Rattle.board.specs.Supply.{supplied};
 ghost use Rattle.board.specs.Span.{placeOf, spans};
-ghost use Rattle.board.specs.Protection.{lockedFrom, wordFrom, writeProtected, anyProtected, wordOf, readProtected};
 use refusal::Admission;
 use refusal::Refusal;
 
@@ -49,12 +48,6 @@ impl Board {
         ensures { λ r. ⌜ r ≡ flashBytes (self .pages) ⌝ }
     {
         self.pages as usize * Board::PAGE
-    }
-
-    pub fn ram_from(self) -> usize
-        ensures { λ r. ⌜ r ≡ ramFrom (self .pages) ⌝ }
-    {
-        self.flash_bytes()
     }
 
     pub fn options_from(self) -> usize
@@ -102,37 +95,6 @@ impl Board {
         }
         Place::Outside
     }
-
-    // Is reading and writing forbidden?
-    pub fn read_protected(self, memory: &[u8]) -> bool
-        ensures { λ r. ⌜ r ≡ readProtected (self .pages) (now (memory .entry)) ⌝ }
-    {
-        locked(memory, self.options_from() as u32)
-    }
-
-    // The option bytes that hold a bit a page, as one number.
-    pub fn protection_word(self, memory: &[u8]) -> u32
-        ensures { λ r. ⌜ r ≡ wordOf (self .pages) (now (memory .entry)) ⌝ }
-    {
-        word(memory, self.options_from() as u32)
-    }
-}
-
-// Do the option bytes that begin at place `from` forbid reading and writing?
-pub fn locked(bytes: &[u8], from: u32) -> bool
-    ensures { λ r. ⌜ r ≡ lockedFrom from (now (bytes .entry)) ⌝ }
-{
-    buffer::byte_at(bytes, from as usize) != 0xAA
-}
-
-// The two option bytes that hold a bit a page, as one number; the option bytes begin at place `from`.
-pub fn word(bytes: &[u8], from: u32) -> u32
-    ensures { λ r. ⌜ r ≡ wordFrom from (now (bytes .entry)) ⌝ }
-{
-    let at = from as usize;
-    let low = buffer::byte_at(bytes, at + 8);
-    let high = buffer::byte_at(bytes, at + 9);
-    low as u32 + high as u32 * 256
 }
 
 // Do `count` addresses from `address` on lie in the region of `bytes` from `first` on?
@@ -147,29 +109,6 @@ fn within(first: u32, bytes: usize, address: u64, count: u64) -> bool
         return false;
     }
     count <= bytes as u64 - offset
-}
-
-// Is the page's bit clear in the protection word? A page that has no bit there is protected.
-pub fn write_protected(word: u32, page: usize) -> bool
-    ensures { λ r. ⌜ r ≡ writeProtected word page ⌝ }
-{
-    if 32 <= page {
-        return true;
-    }
-    (word >> page) & 1 == 0
-}
-
-// Is one of the first `count` pages write-protected?
-pub fn any_protected(word: u32, count: usize) -> bool
-    ensures { λ r. ⌜ r ≡ anyProtected word count 0 ⌝ }
-{
-    let mut any = false;
-    let mut page = 0;
-    while page < count {
-        any = any | write_protected(word, page);
-        page += 1;
-    }
-    any
 }
 
 // How many pages an image takes.

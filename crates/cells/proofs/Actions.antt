@@ -13,7 +13,7 @@ use Rattle.laws.specs.Bytes.{filled}
 use Rattle.laws.proofs.Append.{put-over}
 use Rattle.laws.proofs.Split.{by-bool, by-lt, and-true}
 use Rattle.board.specs.Layout.{pageBytes, flashBytes, ramFrom, ramBytes, optionsFrom, memoryBytes, defaults}
-use Rattle.board.specs.Protection.{readProtected, wordOf, writeProtected, lockedFrom, wordFrom}
+use Rattle.protection.specs.Protection.{readProtected, wordOf, writeProtected, lockedFrom, wordFrom}
 use Rattle.flash.specs.Flash.{kept, each, blank, stored, erased, erasedFrom, erasedAll}
 use Rattle.memory.specs.Whole.{unprotected, ramCleared}
 use Rattle.flash.proofs.Places.{stored-length, stored-outside, stored-spares, stored-puts, each-all, each-if, each-not, Odd}

@@ -13,7 +13,7 @@ use Rattle.laws.proofs.Append.{take-put, part-put}
 use Rattle.laws.proofs.Bytes.{put-length, take-at-most}
 use Rattle.laws.proofs.Split.{and-right-false}
 use Rattle.board.specs.Layout.{optionsFrom, memoryBytes}
-use Rattle.board.specs.Protection.{readProtected}
+use Rattle.protection.specs.Protection.{readProtected}
 use Rattle.request.specs.declared.Request.the-variants.{Download}
 use Rattle.request.specs.Request.{transferBytes, requestOf, isGetStatus}
 use Rattle.request.specs.Setup.{setupOf, dataLength, fitsOf}
@@ -24,8 +24,8 @@ use Rattle.device.specs.declared.Pending.the-variants.{Nothing, SetPointer, Era
 use Rattle.device.specs.declared.Device.{Device}
 use Rattle.mode.specs.Wire.{wireOf}
 use Rattle.device.specs.State.{started, idled, entered, reportOf}
-use Rattle.device.specs.WellFormed.{wellFormed}
-use Rattle.device.proofs.Form.{Form, well-formed, after-status-none}
+use Rattle.states.specs.WellFormed.{wellFormed}
+use Rattle.states.proofs.Form.{Form, well-formed, after-status-none}
 use Rattle.command.specs.declared.Command.{Command}
 use Rattle.decision.specs.declared.Decision.{Decision}
 use Rattle.decision.specs.declared.Decision.the-variants as decided

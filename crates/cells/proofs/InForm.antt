@@ -6,7 +6,7 @@ use Prim.Native.Nat.{ℕ, _≤_}
 use lib.Dec.{T, eqb}
 use lib.ListN.{drop}
 use Rattle.laws.proofs.Split.{by-bool}
-use Rattle.board.specs.Protection.{readProtected, wordOf}
+use Rattle.protection.specs.Protection.{readProtected, wordOf}
 use Rattle.request.specs.declared.Setup.{Setup}
 use Rattle.request.specs.Setup.{setupOf}
 use Rattle.mode.specs.declared.Mode.the-variants.{UploadIdle}
@@ -14,8 +14,8 @@ use Rattle.device.specs.declared.Device.{Device}
 use Rattle.device.specs.declared.Ran.{Ran}
 use Rattle.mode.specs.Wire.{isMode}
 use Rattle.device.specs.State.{reportOf, nothingRan}
-use Rattle.device.specs.WellFormed.{inRegion}
-use Rattle.device.proofs.Form.{Form, Sane, Calm, entered-form, after-status-form}
+use Rattle.states.specs.WellFormed.{inRegion}
+use Rattle.states.proofs.Form.{Form, Sane, Calm, entered-form, after-status-form}
 use Rattle.decision.specs.declared.Decision.{Decision}
 use Rattle.decision.specs.declared.Decision.the-variants as decided
 use Rattle.command.specs.Command.{commandOf}

@@ -12,15 +12,15 @@ use Rattle.board.specs.Layout.{optionsFrom}
 use Rattle.board.specs.declared.Place.{Place}
 use Rattle.board.specs.declared.Place.the-variants.{Flash, Ram, Options, Outside}
 use Rattle.board.specs.Span.{placeOf}
-use Rattle.board.specs.Protection.{readProtected}
+use Rattle.protection.specs.Protection.{readProtected}
 use Rattle.device.specs.declared.Pending.{Pending}
 use Rattle.device.specs.declared.Pending.the-variants.{Nothing, SetPointer, ErasePage, MassErase, ReadUnprotect, Write}
 use Rattle.device.specs.declared.Device.{Device}
 use Rattle.device.specs.declared.Ran.{Ran}
 use Rattle.mode.specs.Wire.{isMode}
 use Rattle.device.specs.State.{afterStatus, reportOf, nothingRan}
-use Rattle.device.specs.WellFormed.{inRegion}
-use Rattle.device.proofs.Form.{Form, well-formed}
+use Rattle.states.specs.WellFormed.{inRegion}
+use Rattle.states.proofs.Form.{Form, well-formed}
 use Rattle.action.specs.declared.Action.{Action}
 use Rattle.access.specs.declared.Access.{Access}
 use Rattle.access.specs.declared.Access.the-variants.{Denied, InFlash, InRam, InOptions}

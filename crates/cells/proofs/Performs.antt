@@ -10,7 +10,7 @@ use lib.Seq.{length-take-le}
 use Rattle.laws.specs.Bytes.{put}
 use Rattle.laws.proofs.Split.{by-bool}
 use Rattle.board.specs.Layout.{optionsFrom, memoryBytes}
-use Rattle.board.specs.Protection.{wordOf}
+use Rattle.protection.specs.Protection.{wordOf}
 use Rattle.request.specs.Request.{transferBytes}
 use Rattle.action.specs.declared.Action.{Action}
 use Rattle.action.specs.declared.Action.the-variants.{Rest, Fail, Point, Erase, EraseAll, Unprotect, ClearRam, StoreFlash, StoreRam, StoreOptions}

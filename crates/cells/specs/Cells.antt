@@ -8,7 +8,7 @@ use lib.Dec.{eqb, ltb}
 use lib.ListN.{length, take, drop, getD, replicate}
 use Rattle.laws.specs.Bytes.{put, filled}
 use Rattle.board.specs.Layout.{pageBytes, flashBytes, ramFrom, ramBytes, optionsFrom, optionBytes, memoryBytes}
-use Rattle.board.specs.Protection.{readProtected, wordOf, writeProtected}
+use Rattle.protection.specs.Protection.{readProtected, wordOf, writeProtected}
 use Rattle.request.specs.declared.Setup.{Setup}
 use Rattle.request.specs.Setup.{setupOf}
 use Rattle.mode.specs.declared.Mode.the-variants.{UploadIdle}

@@ -8,8 +8,8 @@ use lib.ListN.{length, take, drop}
 use Rattle.request.specs.declared.Setup.{Setup}
 use Rattle.device.specs.declared.Device.{Device}
 use Rattle.device.specs.State.{started}
-use Rattle.device.specs.WellFormed.{wellFormed}
-use Rattle.device.proofs.Form.{form-of, well-formed}
+use Rattle.states.specs.WellFormed.{wellFormed}
+use Rattle.states.proofs.Form.{form-of, well-formed}
 use Rattle.hex.specs.Hex.{bytesOf}
 use Rattle.line.specs.Event.{Event, attach, request}
 use Rattle.text.specs.Text.{eventsOf}

@@ -7,7 +7,7 @@ ghost use lib.ListN.{length};
 ghost use Rattle.refusal.specs.Order.{firstOf};
 ghost use Rattle.board.specs.Layout.{loggerPages, flashBytes, optionBytes};
 ghost use Rattle.device.specs.State.{started};
-ghost use Rattle.device.specs.WellFormed.{wellFormed};
+ghost use Rattle.states.specs.WellFormed.{wellFormed};
 ghost use Rattle.laws.specs.Lists.{same};
 ghost use Rattle.text.specs.Text.{eventsOf};
 ghost use Rattle.job.specs.Calls.{textRefusals};

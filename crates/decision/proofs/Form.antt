@@ -8,7 +8,7 @@ use Rattle.mode.specs.declared.Mode.the-variants.{Idle, ManifestSync}
 use Rattle.device.specs.declared.Pending.the-variants.{SetPointer, ErasePage, MassErase, ReadUnprotect, Write}
 use Rattle.device.specs.declared.Device.{Device}
 use Rattle.mode.specs.Wire.{errSTALLEDPKT}
-use Rattle.device.proofs.Form.{Form, Calm, idled-form, stalled-form, entered-form, waiting-form, download-calm, upload-calm}
+use Rattle.states.proofs.Form.{Form, Calm, idled-form, stalled-form, entered-form, waiting-form, download-calm, upload-calm}
 use Rattle.command.specs.declared.Command.{Command}
 use Rattle.decision.specs.declared.Decision.{Decision}
 use Rattle.decision.specs.declared.Decision.the-variants.{Silent, Stall, Accept, Take, Commands, Read, State, Status}

@@ -14,7 +14,7 @@ use Rattle.laws.specs.Bytes.{filled}
 use Rattle.laws.proofs.Split.{by-bool}
 use Rattle.laws.proofs.Bytes.{filled-length, filled-span}
 use Rattle.board.specs.Layout.{pageBytes}
-use Rattle.board.specs.Protection.{writeProtected}
+use Rattle.protection.specs.Protection.{writeProtected}
 use Rattle.flash.specs.Flash.{kept, each, laid, stored, erased, erasedFrom}
 
 -- a test of bytes w from place j on, which stand for places i up to e

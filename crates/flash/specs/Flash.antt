@@ -6,7 +6,7 @@ use lib.Dec.{eqb}
 use lib.ListN.{take, drop}
 use Rattle.laws.specs.Bytes.{filled}
 use Rattle.board.specs.Layout.{pageBytes}
-use Rattle.board.specs.Protection.{writeProtected}
+use Rattle.protection.specs.Protection.{writeProtected}
 
 -- the byte at place i of the memory buffer lies in a write-protected page
 abbrev pub kept : ℕ → ℕ → Bool

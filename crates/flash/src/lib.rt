@@ -14,7 +14,7 @@ pub fn is_blank(memory: &[u8], word: u32, at: usize, count: usize) -> bool
     let end = at + count;
     let mut i = at;
     while i < end {
-        if memory[i] != 0xFF && !board::write_protected(word, i / Board::PAGE) {
+        if memory[i] != 0xFF && !protection::write_protected(word, i / Board::PAGE) {
             return false;
         }
         i += 1;
@@ -29,7 +29,7 @@ pub fn store(memory: &mut [u8], word: u32, at: usize, source: &[u8])
 {
     let mut i = 0;
     while i < source.len() {
-        if !board::write_protected(word, (at + i) / Board::PAGE) {
+        if !protection::write_protected(word, (at + i) / Board::PAGE) {
             memory[at + i] = source[i];
         }
         i += 1;
@@ -41,7 +41,7 @@ pub fn erase(memory: &mut [u8], word: u32, page: usize)
     requires { ⌜ (page + 1) * pageBytes ≤ length (now memory) ⌝ }
     ensures { λ _. ⌜ now (memory .exit) ≡ erased word page (now (memory .entry)) ⌝ }
 {
-    if board::write_protected(word, page) {
+    if protection::write_protected(word, page) {
         return;
     }
     let from = page * Board::PAGE;

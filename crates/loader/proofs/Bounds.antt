@@ -20,7 +20,7 @@ use Rattle.device.specs.declared.Pending.{Pending}
 use Rattle.device.specs.declared.Pending.the-variants.{Nothing, SetPointer, ErasePage, MassErase, ReadUnprotect, Write}
 use Rattle.device.specs.declared.Device.{Device}
 use Rattle.mode.specs.Wire.{isMode}
-use Rattle.device.specs.WellFormed.{inRegion, writeFits, pendingFits, statusFits, wellFormed}
+use Rattle.states.specs.WellFormed.{inRegion, writeFits, pendingFits, statusFits, wellFormed}
 use Rattle.access.specs.declared.Access.{Access}
 use Rattle.access.specs.declared.Access.the-variants.{Denied, InFlash, InRam, InOptions}
 use Rattle.action.specs.declared.Action.{Action}

@@ -11,7 +11,7 @@ use Rattle.laws.proofs.Split.{by-bool}
 use Rattle.board.specs.declared.Place.{Place}
 use Rattle.board.specs.declared.Place.the-variants.{Flash, Ram, Options, Outside}
 use Rattle.board.specs.Layout.{flashBytes}
-use Rattle.board.specs.Protection.{readProtected, wordOf}
+use Rattle.protection.specs.Protection.{readProtected, wordOf}
 use Rattle.board.specs.Span.{spans, placeOf}
 use Rattle.request.specs.Setup.{setupOf}
 use Rattle.mode.specs.declared.Mode.the-variants.{UploadIdle, Error}
@@ -20,8 +20,8 @@ use Rattle.device.specs.declared.Pending.the-variants.{Nothing, SetPointer, Era
 use Rattle.device.specs.declared.Device.{Device}
 use Rattle.mode.specs.Wire.{isMode}
 use Rattle.device.specs.State.{started}
-use Rattle.device.specs.WellFormed.{inRegion, statusFits}
-use Rattle.device.proofs.Form.{Form, Sane, Calm, stalled-form, entered-form, after-status-form}
+use Rattle.states.specs.WellFormed.{inRegion, statusFits}
+use Rattle.states.proofs.Form.{Form, Sane, Calm, stalled-form, entered-form, after-status-form}
 use Rattle.decision.specs.declared.Decision.{Decision}
 use Rattle.decision.specs.declared.Decision.the-variants as decided
 use Rattle.command.specs.Command.{commandOf}

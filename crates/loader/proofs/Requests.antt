@@ -7,7 +7,7 @@ use native.Mathlib.Omega.{arith}
 use lib.ListN.{length, take, drop}
 use Rattle.laws.specs.Bytes.{put}
 use Rattle.laws.proofs.Bytes.{rest-is, take-at-most}
-use Rattle.board.specs.Protection.{readProtected}
+use Rattle.protection.specs.Protection.{readProtected}
 use Rattle.request.specs.declared.Setup.{Setup}
 use Rattle.request.specs.Request.{transferBytes}
 use Rattle.request.specs.Setup.{setupOf, dataLength, fitsOf}

@@ -10,8 +10,8 @@ use Rattle.refusal.specs.Order.{before}
 use Rattle.refusal.proofs.First.{NoneApply, First, first-exactly}
 use Rattle.refusal.proofs.Order.{Applies, none-before}
 use Rattle.device.specs.declared.Device.{Device}
-use Rattle.device.specs.WellFormed.{wellFormed}
-use Rattle.device.proofs.Form.{form-of, well-formed}
+use Rattle.states.specs.WellFormed.{wellFormed}
+use Rattle.states.proofs.Form.{form-of, well-formed}
 use Rattle.loader.specs.declared.Event.{Event}
 use Rattle.loader.specs.declared.Stepped.{Stepped}
 use Rattle.loader.specs.declared.Answer.the-variants as answer

@@ -10,7 +10,7 @@ use mathlib.Core.Path.{_≡_}
 use Rattle.request.specs.Request.{transferBytes}
 use Rattle.request.specs.Setup.{fitsOf}
 use Rattle.device.specs.declared.Device.{Device}
-use Rattle.device.specs.WellFormed.{wellFormed}
+use Rattle.states.specs.WellFormed.{wellFormed}
 
 -- where in the memory buffer an action ends
 abbrev pub endOf : Action → ℕ

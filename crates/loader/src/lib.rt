@@ -10,7 +10,7 @@ ghost use Rattle.refusal.specs.Order.{firstOf};
 ghost use Rattle.board.specs.Layout.{loggerPages, memoryBytes};
 ghost use Rattle.request.specs.Request.{transferBytes};
 ghost use Rattle.mode.specs.Wire.{isMode};
-ghost use Rattle.device.specs.WellFormed.{wellFormed};
+ghost use Rattle.states.specs.WellFormed.{wellFormed};
 ghost use Rattle.loader.specs.Answer.{left};
 ghost use Rattle.loader.specs.Inner.{endOf, countOf, InOrder};
 ghost use Rattle.loader.specs.Perform.{performed, performedOf, writtenOf};
@@ -103,7 +103,7 @@ fn admit(board: Board, device: Device, event: Event, request: &[u8], sizes: Size
     if sizes.reply != Setup::TRANSFER as usize {
         return Admission::Refused(Refusal::Reply);
     }
-    if !device.well_formed(board) {
+    if !states::well_formed(device, board) {
         return Admission::Refused(Refusal::State);
     }
     match event {
@@ -172,7 +172,7 @@ fn upload(board: Board, device: Device, setup: Setup, memory: &[u8], reply: &mut
     requires { ⌜ (length (now memory) ≡ memoryBytes (board .pages)) × (length (now reply) ≡ transferBytes) × (setup .length ≤ transferBytes) ⌝ }
     ensures { λ r. ⌜ ((b : List ℕ) → left r (now (memory .entry)) b (now (reply .exit)) ≡ uploadedOf (board .pages) device setup (now (memory .entry)) b (now (reply .entry))) ⌝ }
 {
-    let protected = board.read_protected(memory);
+    let protected = protection::read_protected(board, memory);
     let count = setup.length;
     let access = access::examine_block(board, protected, setup.value, count, device.pointer);
     match access {
@@ -241,7 +241,7 @@ fn run(board: Board, device: Device, memory: &mut [u8], block: &[u8]) -> Ran
     if !waits(device) {
         return device.nothing_ran();
     }
-    let protected = board.read_protected(memory);
+    let protected = protection::read_protected(board, memory);
     let action = action::intend(board, protected, device);
     let status = perform(board, action, memory, block);
     action.ran(device.pointer, status)
@@ -270,7 +270,7 @@ fn perform(board: Board, action: Action, memory: &mut [u8], block: &[u8]) -> u8
     requires { ⌜ (length (now memory) ≡ memoryBytes (board .pages)) × (endOf action ≤ memoryBytes (board .pages)) × (countOf action ≤ length (now block)) ⌝ }
     ensures { λ r. ⌜ performed r (now (memory .exit)) ≡ performedOf (board .pages) action (now (block .entry)) (now (memory .entry)) ⌝ }
 {
-    let word = board.protection_word(memory);
+    let word = protection::protection_word(board, memory);
     match action {
         Action::Rest => 0,
         Action::Fail(status) => status,

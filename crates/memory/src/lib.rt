@@ -6,12 +6,12 @@ ghost use Rattle.board.specs.Layout.{memoryBytes};
 ghost use Rattle.memory.specs.Whole.{unprotected, ramCleared};
 use board::Board;
 
-// The RAM becomes zero.
+// The RAM becomes zero. It begins where flash ends.
 pub fn clear_ram(board: Board, memory: &mut [u8])
     requires { ⌜ memoryBytes (board .pages) ≤ length (now memory) ⌝ }
     ensures { λ _. ⌜ now (memory .exit) ≡ ramCleared (board .pages) (now (memory .entry)) ⌝ }
 {
-    let from = board.ram_from();
+    let from = board.flash_bytes();
     buffer::fill(memory, from, from + Board::RAM_BYTES, 0);
 }
 
@@ -20,7 +20,7 @@ pub fn unprotect(board: Board, memory: &mut [u8])
     requires { ⌜ length (now memory) ≡ memoryBytes (board .pages) ⌝ }
     ensures { λ _. ⌜ now (memory .exit) ≡ unprotected (board .pages) ⌝ }
 {
-    let ram = board.ram_from();
+    let ram = board.flash_bytes();
     let options = board.options_from();
     let defaults = Board::default_options();
     buffer::fill(memory, 0, ram, 0xFF);

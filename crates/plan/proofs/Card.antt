@@ -6,8 +6,8 @@ use Prim.Native.Nat.{ℕ, _+_, _*_, _^_, _<_}
 use native.Mathlib.Omega.{arith}
 use lib.ListN.{length, getD}
 use Rattle.laws.proofs.Split.{by-lt, or-false}
-use Rattle.board.specs.Protection.{lockedFrom, wordFrom, writeProtected, anyProtected}
-use Rattle.board.proofs.Protection.{protected-past}
+use Rattle.protection.specs.Protection.{lockedFrom, wordFrom, writeProtected, anyProtected}
+use Rattle.protection.proofs.Protection.{protected-past}
 use Rattle.laws.specs.Lists.{allBytes}
 use Rattle.laws.proofs.Lists.{byte-at}
 use Rattle.board.specs.Layout.{pagesOf}

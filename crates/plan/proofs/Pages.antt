@@ -11,7 +11,7 @@ use lib.Seq.{getD-drop}
 use Rattle.laws.specs.Bytes.{put}
 use Rattle.laws.proofs.Split.{by-bool, by-lt}
 use Rattle.board.specs.Layout.{pageBytes, flashBytes, optionsFrom, optionBytes, memoryBytes}
-use Rattle.board.specs.Protection.{readProtected, wordOf, lockedFrom, wordFrom, writeProtected}
+use Rattle.protection.specs.Protection.{readProtected, wordOf, lockedFrom, wordFrom, writeProtected}
 use Rattle.request.specs.Request.{transferBytes}
 use Rattle.request.specs.declared.Request.the-variants.{Download}
 use Rattle.mode.specs.declared.Mode.{Mode}

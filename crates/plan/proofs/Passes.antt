@@ -9,8 +9,8 @@ use lib.Seq.{ext-getD, getD-take, getD-drop, length-take-le}
 use borrow.Author.Tests.{eq-eqb, lt-ltb, le-ltb}
 use Rattle.laws.proofs.Split.{by-lt}
 use Rattle.board.specs.Layout.{pageBytes, flashFirst, flashBytes, optionsFrom, optionBytes, pagesOf}
-use Rattle.board.specs.Protection.{lockedFrom, wordFrom, anyProtected}
-use Rattle.board.proofs.Protection.{none-parts}
+use Rattle.protection.specs.Protection.{lockedFrom, wordFrom, anyProtected}
+use Rattle.protection.proofs.Protection.{none-parts}
 use Rattle.request.specs.declared.Request.the-variants.{Download}
 use Rattle.mode.specs.declared.Mode.{Mode}
 use Rattle.mode.specs.declared.Mode.the-variants.{Idle, DownloadIdle, ManifestSync, Left}

@@ -4,7 +4,7 @@ use mathlib.Core.Bool.{Bool, true, false}
 use mathlib.Core.List.{List}
 use Prim.Native.Nat.{ℕ}
 use lib.ListN.{length}
-use Rattle.board.specs.Protection.{lockedFrom, wordFrom, anyProtected}
+use Rattle.protection.specs.Protection.{lockedFrom, wordFrom, anyProtected}
 use Rattle.board.specs.Layout.{pagesOf}
 use Rattle.plan.specs.Plan.{barred}
 

@@ -9,7 +9,7 @@ use borrow.Author.Tests.{le-leb, le-ltb, ne-eqb}
 use Rattle.laws.specs.Bytes.{put}
 use Rattle.board.specs.declared.Place.the-variants.{Flash}
 use Rattle.board.specs.Layout.{pageBytes, flashFirst, flashBytes}
-use Rattle.board.specs.Protection.{readProtected, wordOf}
+use Rattle.protection.specs.Protection.{readProtected, wordOf}
 use Rattle.board.specs.Span.{placeOf}
 use Rattle.board.proofs.Span.{spans-room, place-flash}
 use Rattle.request.specs.declared.Setup.{Setup}
@@ -23,7 +23,7 @@ use Rattle.device.specs.declared.Pending.the-variants.{Nothing, SetPointer, Era
 use Rattle.device.specs.declared.Device.{Device}
 use Rattle.mode.specs.Wire.{isMode}
 use Rattle.mode.specs.Table.{allowedOf}
-use Rattle.device.specs.WellFormed.{inRegion}
+use Rattle.states.specs.WellFormed.{inRegion}
 use Rattle.device.specs.State.{afterStatus, reportOf}
 use Rattle.command.specs.Command.{commandOf}
 use Rattle.decision.specs.Decide.{commandedOf, downloadOf, decideOf}

@@ -16,7 +16,7 @@ use Rattle.laws.proofs.Append.{part-put}
 use Rattle.laws.proofs.Places.{put-before}
 use Rattle.laws.proofs.Split.{by-lt}
 use Rattle.board.specs.Layout.{pageBytes, memoryBytes}
-use Rattle.board.specs.Protection.{writeProtected}
+use Rattle.protection.specs.Protection.{writeProtected}
 use Rattle.request.specs.Request.{transferBytes}
 use Rattle.flash.specs.Flash.{kept, each, blank, stored}
 use Rattle.flash.proofs.Places.{stored-length, stored-outside, stored-puts, each-if}

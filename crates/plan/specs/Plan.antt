@@ -5,7 +5,7 @@ use Prim.Native.Nat.{ℕ, zero, suc, _+_, _*_}
 use lib.Dec.{eqb}
 use lib.ListN.{length, take, drop}
 use Rattle.board.specs.Layout.{pageBytes, flashFirst, pagesOf}
-use Rattle.board.specs.Protection.{lockedFrom, wordFrom, anyProtected}
+use Rattle.protection.specs.Protection.{lockedFrom, wordFrom, anyProtected}
 use Rattle.request.specs.Spelled.{four, downloading, gettingStatus}
 use Rattle.refusal.specs.declared.Refusal.{Refusal}
 use Rattle.refusal.specs.declared.Refusal.the-variants.{Protected}

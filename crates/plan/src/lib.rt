@@ -35,10 +35,10 @@ const END_LINES: usize = 110;
 fn barred(image: &[u8], card: &[u8]) -> bool
     ensures { λ r. ⌜ r ≡ barred (now (image .entry)) (now (card .entry)) ⌝ }
 {
-    if board::locked(card, 0) {
+    if protection::locked(card, 0) {
         return true;
     }
-    board::any_protected(board::word(card, 0), board::pages_of(image))
+    protection::any_protected(protection::word(card, 0), board::pages_of(image))
 }
 
 // How many bytes a block of so many bytes of the image has: a single one gets a second.

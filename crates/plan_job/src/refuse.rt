@@ -59,7 +59,7 @@ fn card(size: usize) {
 fn first_protected(word: u32, count: usize) -> usize {
     let mut page = 0;
     while page < count {
-        if board::write_protected(word, page) {
+        if protection::write_protected(word, page) {
             return page;
         }
         page += 1;
@@ -79,7 +79,7 @@ fn page(page: usize) {
 
 // A card that keeps the image from being written.
 fn protected(image: &[u8], card: &[u8]) {
-    if board::locked(card, 0) {
+    if protection::locked(card, 0) {
         tell(
             b"The card is read-protected (option byte 0 is not AA), and a board with it takes no erase and no write. Lift that on the board, which erases the flash, then plan again with the card that the board has then.\n",
             0,
@@ -88,7 +88,7 @@ fn protected(image: &[u8], card: &[u8]) {
         );
         return;
     }
-    page(first_protected(board::word(card, 0), board::pages_of(image)));
+    page(first_protected(protection::word(card, 0), board::pages_of(image)));
 }
 
 // An image or a card that no job is for.

@@ -9,7 +9,7 @@ use lib.Dec.{eqb}
 use lib.ListN.{length, getD}
 use borrow.Author.Tests.{eq-eqb, ne-eqb}
 use Rattle.board.specs.Layout.{loggerPages, pageBytes}
-use Rattle.board.specs.Protection.{wordOf, writeProtected}
+use Rattle.protection.specs.Protection.{wordOf, writeProtected}
 use Rattle.trial.specs.Trial.{firstWritten}
 
 module _ (m : List ℕ) (word i : ℕ) (is : word ≡ wordOf loggerPages m) (more : i < length m) where

@@ -11,7 +11,7 @@ use borrow.Author.Tests.{eq-eqb, ne-eqb, lt-ltb, le-ltb}
 use Rattle.laws.specs.Bytes.{put, filled}
 use Rattle.laws.proofs.Bytes.{rest-is}
 use Rattle.board.specs.Layout.{loggerPages, optionsFrom, optionBytes, memoryBytes}
-use Rattle.board.specs.Protection.{readProtected}
+use Rattle.protection.specs.Protection.{readProtected}
 use Rattle.request.specs.Request.{transferBytes}
 use Rattle.device.specs.declared.Device.{Device}
 use Rattle.loader.specs.declared.Stepped.{Stepped}

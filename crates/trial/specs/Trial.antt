@@ -6,7 +6,7 @@ use lib.Dec.{eqb, ltb}
 use lib.ListN.{length, take, drop, getD, replicate}
 use Rattle.laws.specs.Bytes.{put, filled}
 use Rattle.board.specs.Layout.{loggerPages, pageBytes, flashFirst, optionsFrom, optionBytes, memoryBytes}
-use Rattle.board.specs.Protection.{wordOf, writeProtected, readProtected}
+use Rattle.protection.specs.Protection.{wordOf, writeProtected, readProtected}
 use Rattle.request.specs.Request.{transferBytes}
 use Rattle.mode.specs.declared.Mode.{Mode}
 use Rattle.mode.specs.declared.Mode.the-variants.{Idle, DownloadSync, DownloadBusy, DownloadIdle, ManifestSync, UploadIdle, Error, Left, Rebooting}

@@ -168,10 +168,10 @@ fn live(
 fn first_written(memory: &[u8], from: usize) -> usize
     ensures { λ r. ⌜ r ≡ firstWritten (now (memory .entry)) (length (now (memory .entry)) - from) from ⌝ }
 {
-    let word = Board::LOGGER.protection_word(memory);
+    let word = protection::protection_word(Board::LOGGER, memory);
     let mut i = from;
     while i < memory.len() {
-        if memory[i] != 0xFF && !board::write_protected(word, i / Board::PAGE) {
+        if memory[i] != 0xFF && !protection::write_protected(word, i / Board::PAGE) {
             return i;
         }
         i += 1;
@@ -204,7 +204,7 @@ fn survey(scene: Scene, memory: &[u8], card: &[u8]) -> Scene
     let pending = device.pending;
     let from = aim(device.pointer, pending);
     Scene {
-        is_protected: Board::LOGGER.read_protected(memory),
+        is_protected: protection::read_protected(Board::LOGGER, memory),
         dirt: first_written(memory, from),
         altered: player::first_change(&memory[OPTIONS_AT..], card, 0, OPTIONS),
         ..scene

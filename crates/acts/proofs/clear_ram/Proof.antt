@@ -5,8 +5,8 @@ use borrow.Author.Needs.{needs}
 use Rattle.acts.proofs.clear_ram.Statement.{statement}
 use Rattle.acts.proofs.clear_ram.Tie as tie
 
-ram-from-requires : tie.Need-ram-from-requires
-ram-from-requires c κs = search needs
+flash-bytes-requires : tie.Need-flash-bytes-requires
+flash-bytes-requires c κs = search needs
 
 add-to : tie.Need-add-to
 add-to c = search needs
@@ -23,8 +23,8 @@ same-length c = search needs
 returns : tie.Need-returns
 returns c =
     let f = c .before .before .before .before .before .before in
-    learnt-is _ _ _ _ _ _ _ (f .fill .ensures) (c .before .before .mark .ensures) ∙ rw (f .before .before .ram-from .ensures)
+    learnt-is _ _ _ _ _ _ _ (f .fill .ensures) (c .before .before .mark .ensures) ∙ rw (f .before .before .flash-bytes .ensures)
 
 pub clear-ram-spec : {M : Type 1} → statement M
 clear-ram-spec =
-    tie.close (tie.spec ram-from-requires add-to fill-requires mark-requires same-length returns)
+    tie.close (tie.spec flash-bytes-requires add-to fill-requires mark-requires same-length returns)

@@ -5,8 +5,8 @@ use Prim.Native.Nat.{_-_, _≤_}
 use native.Mathlib.Omega.{arith}
 use lib.ListN.{length, drop}
 use Rattle.device.specs.State.{started}
-use Rattle.device.specs.WellFormed.{wellFormed}
-use Rattle.device.proofs.Form.{well-formed}
+use Rattle.states.specs.WellFormed.{wellFormed}
+use Rattle.states.proofs.Form.{well-formed}
 use Rattle.loader.proofs.Form.{started-form}
 use Rattle.text.specs.Text.{eventsOf}
 use Rattle.verdict.specs.Checked.{workBytes}

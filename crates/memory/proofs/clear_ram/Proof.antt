@@ -4,8 +4,8 @@ use borrow.Author.Needs.{needs}
 use Rattle.memory.proofs.clear_ram.Statement.{statement}
 use Rattle.memory.proofs.clear_ram.Tie as tie
 
-ram-from-requires : tie.Need-ram-from-requires
-ram-from-requires c κs = search needs
+flash-bytes-requires : tie.Need-flash-bytes-requires
+flash-bytes-requires c κs = search needs
 
 add-fill : tie.Need-add-fill
 add-fill c = search needs
@@ -17,7 +17,7 @@ same-length : tie.Need-same-length
 same-length c = search needs
 
 returns : tie.Need-returns
-returns c = cleared-is _ _ _ _ (c .before .before .before .before .ram-from .ensures) (c .before .before .fill .ensures)
+returns c = cleared-is _ _ _ _ (c .before .before .before .before .flash-bytes .ensures) (c .before .before .fill .ensures)
 
 pub clear-ram-spec : {M : Type 1} → statement M
-clear-ram-spec = tie.close (tie.spec ram-from-requires add-fill fill-requires same-length returns)
+clear-ram-spec = tie.close (tie.spec flash-bytes-requires add-fill fill-requires same-length returns)

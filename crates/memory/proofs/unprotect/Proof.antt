@@ -4,8 +4,8 @@ use borrow.Author.Needs.{needs}
 use Rattle.memory.proofs.unprotect.Statement.{statement}
 use Rattle.memory.proofs.unprotect.Tie as tie
 
-ram-from-requires : tie.Need-ram-from-requires
-ram-from-requires c κs = search needs
+flash-bytes-requires : tie.Need-flash-bytes-requires
+flash-bytes-requires c κs = search needs
 
 options-from-requires : tie.Need-options-from-requires
 options-from-requires c κs = search needs
@@ -35,13 +35,13 @@ returns c =
     let f₁ = f₂ .before .before .before .before in
     let d = f₁ .before .before in
     let s = d .before .before .before .before in
-    unprotected-is _ _ _ _ _ _ _ _ (d .before .before .ram-from .ensures) (d .before .options-from .ensures) (s .pre) (d .default-options .ensures) (f₁ .fill .ensures) (f₂ .fill2 .ensures) (p .put .ensures)
+    unprotected-is _ _ _ _ _ _ _ _ (d .before .before .flash-bytes .ensures) (d .before .options-from .ensures) (s .pre) (d .default-options .ensures) (f₁ .fill .ensures) (f₂ .fill2 .ensures) (p .put .ensures)
 
 pub unprotect-spec : {M : Type 1} → statement M
 unprotect-spec =
     tie.close
     (tie.spec
-    ram-from-requires
+    flash-bytes-requires
     options-from-requires
     default-options-requires
     fill-requires

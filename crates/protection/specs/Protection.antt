@@ -1,0 +1,32 @@
+-- What the option bytes protect. Document 01, "The board", our option layout. Assumes nothing.
+use mathlib.Core.Bool.{Bool, false, not, _||_}
+use mathlib.Core.List.{List}
+use Prim.Native.Nat.{ℕ, zero, suc, _+_, _*_, _/_, _%_, _^_}
+use lib.Dec.{eqb}
+use lib.ListN.{getD}
+use Rattle.board.specs.Layout.{optionsFrom}
+
+-- "byte 0 is 0xAA for no read protection, any other value for protected"; the option bytes stand in m from place `from` on
+unfoldable pub lockedFrom : ℕ → List ℕ → Bool
+lockedFrom from m = not (eqb (getD m from 0) 0xAA)
+
+-- "Bytes 8 and 9, low byte first"
+unfoldable pub wordFrom : ℕ → List ℕ → ℕ
+wordFrom from m = getD m (from + 8) 0 + getD m (from + 9) 0 * 256
+
+-- read protection of the memory buffer m
+unfoldable pub readProtected : ℕ → List ℕ → Bool
+readProtected n m = lockedFrom (optionsFrom n) m
+
+-- and the protection word of the memory buffer m
+unfoldable pub wordOf : ℕ → List ℕ → ℕ
+wordOf n m = wordFrom (optionsFrom n) m
+
+-- "hold one bit a page; a clear bit write-protects that page"
+unfoldable pub writeProtected : ℕ → ℕ → Bool
+writeProtected word page = eqb (word / 2 ^ page % 2) 0
+
+-- one of `count` pages from `page` on is write-protected
+unfoldable pub anyProtected : ℕ → ℕ → ℕ → Bool
+anyProtected word zero page = false
+anyProtected word (suc count) page = writeProtected word page || anyProtected word count (suc page)
