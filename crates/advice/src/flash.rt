@@ -2,7 +2,6 @@
 //
 // Two boards tell what the job does to a byte: one had flash all zero, one had it erased. Where they agree after the
 // job, the job set the byte; where they do not, it left it as it was.
-ghost use Prim.Native.Nat.{_≤_};
 use crate::deed;
 use crate::place;
 use crate::say;
@@ -20,13 +19,6 @@ pub struct Found {
     pub want: u8,
     pub is_locked: bool,
     pub line: usize,
-}
-
-// The option byte that holds a page's bit.
-pub(crate) fn option_of(page: usize) -> usize
-    ensures { λ r. ⌜ r ≤ 9 ⌝ }
-{
-    8 + page / 8 % 2
 }
 
 // Where an offset lies: 0 in an image of this size, 1 behind it in its last page, 2 in a page that it does not reach.
@@ -69,7 +61,7 @@ fn stuck(found: Found) {
         &[
             hold(found.is_locked, found.line),
             page,
-            option_of(page),
+            protection::option_of(page),
             page % 8,
             page,
             page,

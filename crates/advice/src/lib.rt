@@ -26,7 +26,7 @@ fn before(line: usize) -> usize {
 // The event that fails, and the board before it.
 fn failed(line: usize, packed: &[u8], card: &[u8]) {
     let scene = trial::run(packed, before(line), card, 0, 0);
-    let at = say::least(scene.at, packed.len());
+    let at = buffer::least(scene.at, packed.len());
     event::explain(line, scene, player::asks(&packed[at..]));
 }
 
@@ -34,7 +34,7 @@ fn failed(line: usize, packed: &[u8], card: &[u8]) {
 fn ended(condition: u8, packed: &[u8], card: &[u8]) {
     let all = packed.len();
     let scene = trial::run(packed, all, card, 0, 0);
-    let number = say::least(scene.altered, trial::OPTIONS);
+    let number = buffer::least(scene.altered, trial::OPTIONS);
     let place = trial::OPTIONS_AT + number;
     let option = trial::run(packed, all, card, 0, place);
     let cause = trial::run(packed, before(option.changed), card, 0, place);
@@ -68,7 +68,7 @@ fn differs(offset: usize, packed: &[u8], image: &[u8], card: &[u8]) {
         all,
         card,
         0,
-        trial::OPTIONS_AT + flash::option_of(page),
+        trial::OPTIONS_AT + protection::option_of(page),
     );
     let last = trial::run(packed, before(zero.changed), card, 0, offset);
     let line = flash::doer(side, zero.changed, zero.earlier, last.device);
@@ -90,7 +90,7 @@ fn size(evidence: Done, room: usize) -> usize
     ensures { λ r. ⌜ r ≤ room ⌝ }
 {
     match evidence {
-        Done::Bytes(count) => say::least(count, room),
+        Done::Bytes(count) => buffer::least(count, room),
         Done::Refused(_) => 0,
     }
 }

@@ -1,5 +1,4 @@
 // Words for people, on standard error.
-ghost use Prim.Native.Nat.{_≤_};
 use libc::STDERR_FILENO;
 use mode::Mode;
 use request::Request;
@@ -9,12 +8,6 @@ const ROOM: usize = 512;
 
 // Room for the longest name.
 const NAME: usize = 64;
-
-pub(crate) fn least(a: usize, b: usize) -> usize
-    ensures { λ r. ⌜ (r ≤ a) × (r ≤ b) ⌝ }
-{
-    if a < b { a } else { b }
-}
 
 pub(crate) fn text(text: &[u8]) {
     files::write(STDERR_FILENO, text, text.len());

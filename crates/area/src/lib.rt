@@ -22,8 +22,8 @@ use device::Ran;
 use mode::Mode;
 use request::Setup;
 
-// What an event comes to: it falls, that is, fails on some board; or all boards go on alike, with this device. A struct, since the compiler
-// takes an enum with a device in it apart and puts it together again at each event.
+// What an event comes to: it falls, that is, fails on some board; or all boards go on alike, with this device. A
+// struct, since the compiler takes an enum with a device in it apart and puts it together again at each event.
 pub struct Step {
     pub falls: bool,
     pub device: Device,
@@ -113,7 +113,8 @@ fn command(field: &[u8]) -> Command
     Command::of(&bytes)
 }
 
-// A request on every board; `field` holds its data as digits. GETSTATUS is looked for first: it is the most frequent, and has no data.
+// A request on every board; `field` holds its data as digits. GETSTATUS is looked for first: it is the most frequent,
+// and has no data.
 pub fn request(board: Board, device: Device, setup: Setup, field: &[u8], work: &mut [u8]) -> Step
     requires { ⌜ (length (now work) ≡ workBytes (board .pages)) × (wellFormed (board .pages) device ≡ true) × (length (now field) ≡ dataLength setup * 2) × (allDigits (now field) ≡ true) ⌝ }
     ensures { λ r. ⌜ movedAs r (now (work .exit)) ≡ requestMoves (board .pages) device setup (bytesOf (now (field .entry))) (now (work .entry)) ⌝ }

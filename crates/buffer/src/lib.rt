@@ -1,9 +1,17 @@
-// Actions on lent bytes: read one, lay some over others, fill a part.
+// Actions on lent bytes: read one, lay some over others, fill a part; and how far to go in them.
 ghost use mathlib.Core.Path.{_≡_};
 ghost use Prim.Native.Nat.{_+_, _-_, _≤_};
 ghost use lib.ListN.{length, getD, drop};
 ghost use Rattle.laws.specs.Bytes.{put, filled};
 ghost use Rattle.laws.specs.Lists.{same, allAre};
+ghost use Rattle.buffer.specs.Least.{leastOf};
+
+// The smaller of two.
+pub fn least(a: usize, b: usize) -> usize
+    ensures { λ r. ⌜ (r ≡ leastOf a b) × (r ≤ a) × (r ≤ b) ⌝ }
+{
+    if a < b { a } else { b }
+}
 
 // The byte at a place, or 0 past the end.
 pub fn byte_at(bytes: &[u8], at: usize) -> u8
@@ -39,7 +47,8 @@ pub fn fill(buffer: &mut [u8], from: usize, to: usize, byte: u8)
     }
 }
 
-// Is each byte from place `from` up to place `to` this one? It looks at them all, so that many can be compared at a time.
+// Is each byte from place `from` up to place `to` this one? It looks at them all, so that many can be compared at a
+// time.
 pub fn all_are(bytes: &[u8], from: usize, to: usize, byte: u8) -> bool
     requires { ⌜ (from ≤ to) × (to ≤ length (now bytes)) ⌝ }
     ensures { λ r. ⌜ r ≡ allAre byte (to - from) (drop from (now (bytes .entry))) ⌝ }

@@ -24,7 +24,8 @@ pub enum Decision {
     Status,
 }
 
-// Does the request come to Status? Most requests of a job do, and no command has to be read for it: a caller may ask this first.
+// Does the request come to Status? Most requests of a job do, and no command has to be read for it: a caller may ask
+// this first.
 pub fn asks_status(device: Device, setup: Setup) -> bool
     ensures { λ r. ⌜ ((k : Command) → r ≡ isStatus (decideOf device setup k)) ⌝ }
 {

@@ -18,7 +18,8 @@ loaded-part m ys at count n h l k =
       last = omega arith;
       front = take-put at (at + count - at) m ys b;
       rest = drop-put at (at + count) m ys a h e;
+      none = λ few. let no : ⊥ = omega arith in absurd no;
     }
 
 pub loaded-none : (m : List ℕ) (at count : ℕ) → Loaded at count at m m
-loaded-none m at count = record { first = omega arith; last = omega arith; front = refl; rest = refl }
+loaded-none m at count = record { first = omega arith; last = omega arith; front = refl; rest = refl; none = λ few. (refl, refl) }

@@ -1,7 +1,6 @@
 // The file of vectors, and the lines that are printed: what the programs that play vectors ask of the system.
 //
 // What the system reads and writes no contract can say: the gate compares what the programs print.
-ghost use Prim.Native.Nat.{_≤_};
 ghost use Rattle.feed.specs.Feed.{Loaded};
 use libc::STDERR_FILENO;
 use libc::STDOUT_FILENO;
@@ -11,12 +10,6 @@ pub const MOST: usize = 1000000;
 
 // Room for a line.
 const LINE: usize = 256;
-
-fn least(a: usize, b: usize) -> usize
-    ensures { λ r. ⌜ (r ≤ a) × (r ≤ b) ⌝ }
-{
-    if a < b { a } else { b }
-}
 
 // Opens the file of vectors, or says that it cannot be read.
 pub fn open() -> i32 {
@@ -37,20 +30,20 @@ pub fn next(fd: i32, head: &mut [u8]) -> bool {
 pub fn load(fd: i32, buffer: &mut [u8], at: usize, count: usize) -> usize
     ensures { λ r. ⌜ Loaded at count r (now (buffer .entry)) (now (buffer .exit)) ⌝ }
 {
-    if buffer.len() < at {
+    if at <= buffer.len() {
+        if count <= buffer.len() - at {
+            return at + io::read_full(fd, &mut buffer[at..at + count]);
+        }
         return at;
     }
-    if buffer.len() - at < count {
-        return at;
-    }
-    at + io::read_full(fd, &mut buffer[at..at + count])
+    at
 }
 
 // Prints what the template says with the numbers, all at once: a line of the output.
 pub fn print(template: &[u8], numbers: &[usize]) {
     let mut line = [0u8; LINE];
     let end = sentence::fill(template, numbers, b"", &mut line, 0);
-    io::write_all(STDOUT_FILENO, &line[0..least(end, LINE)]);
+    io::write_all(STDOUT_FILENO, &line[0..buffer::least(end, LINE)]);
 }
 
 // Closes the file, and prints the last line, how many vectors there were; nothing where there was no file.

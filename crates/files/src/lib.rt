@@ -6,10 +6,9 @@
 // running.
 ghost use mathlib.Core.Path.{_≡_};
 ghost use mathlib.Core.Bool.{true, false, cond};
-ghost use mathlib.Core.List.{[], _∷_};
 ghost use Prim.Native.Nat.{_+_, _≤_};
 ghost use lib.ListN.{length};
-ghost use Rattle.words.specs.Words.{left, saidOf};
+ghost use Rattle.sentence.specs.Said.{left, saidOf};
 ghost use Rattle.files.specs.Came.{Came};
 ghost use Rattle.files.specs.Unreadable.{causeOf, unreadableOf};
 
@@ -30,12 +29,6 @@ pub struct Got {
     pub is_read: bool,
     pub count: usize,
     pub fault: Fault,
-}
-
-fn least(a: usize, b: usize) -> usize
-    ensures { λ r. ⌜ (r ≤ a) × (r ≤ b) ⌝ }
-{
-    if a < b { a } else { b }
 }
 
 // The fault behind the system's last error.
@@ -120,7 +113,7 @@ fn fill(fd: i32, buffer: &mut [u8]) -> Got
 // Opens the file in the folder, whose name is the second text.
 fn open_found(file: &[u8], path: &mut [u8]) -> i32 {
     let length = sentence::fill(b"[$|$]", &[1], file, path, 0);
-    os::open_read(&path[0..least(length, path.len())])
+    os::open_read(&path[0..buffer::least(length, path.len())])
 }
 
 fn open(is_named: bool, argument: usize, file: &[u8], path: &mut [u8]) -> i32 {
@@ -189,5 +182,5 @@ pub fn unreadable(got: Got, argument: usize, file: &[u8], out: &mut [u8]) -> usi
 
 // Writes the first `count` bytes, or all where there are not so many.
 pub fn write(fd: i32, words: &[u8], count: usize) {
-    io::write_all(fd, &words[0..least(count, words.len())]);
+    io::write_all(fd, &words[0..buffer::least(count, words.len())]);
 }

@@ -1,4 +1,4 @@
-// Hexadecimal: a digit, and a field of digits, both ways.
+// Hexadecimal: a field of digits, both ways.
 ghost use mathlib.Core.Path.{_≡_};
 ghost use mathlib.Core.Bool.{true, cond};
 ghost use Prim.Native.Nat.{_+_, _*_, _/_, _≤_, _<_};
@@ -9,7 +9,7 @@ ghost use Rattle.hex.specs.Ways.{faultOf};
 ghost use Rattle.hex.specs.Hex.{valueOf, digitOf, byteOf, allDigits, bytesOf, hexOf};
 
 // The digit of the low half of a byte.
-pub fn digit(byte: u8) -> u8
+fn digit(byte: u8) -> u8
     ensures { λ r. ⌜ r ≡ digitOf byte ⌝ }
 {
     let n = byte % 16;
@@ -52,8 +52,8 @@ fn more(a: u8, b: u8) -> u8
     if a < b { b } else { a }
 }
 
-// Are all bytes of the field digits? The loop goes to the end of the field whatever it meets: where no branch leaves a loop, the compiler can take
-// many bytes at a time.
+// Are all bytes of the field digits? The loop goes to the end of the field whatever it meets: where no branch leaves a
+// loop, the compiler can take many bytes at a time.
 pub fn digits(field: &[u8]) -> bool
     ensures { λ r. ⌜ r ≡ allDigits (now (field .entry)) ⌝ }
 {
@@ -66,7 +66,8 @@ pub fn digits(field: &[u8]) -> bool
     worst == 0
 }
 
-// The bytes that the field spells go over those of `out` from place `at` on; a last digit without its second is left out.
+// The bytes that the field spells go over those of `out` from place `at` on; a last digit without its second is left
+// out.
 pub fn decode(field: &[u8], out: &mut [u8], at: usize)
     requires { ⌜ (at + length (now field) / 2 ≤ length (now out)) × (allDigits (now field) ≡ true) ⌝ }
     ensures { λ _. ⌜ now (out .exit) ≡ put at (bytesOf (now (field .entry))) (now (out .entry)) ⌝ }

@@ -72,7 +72,7 @@ fn page(page: usize) {
     tell(
         b"The image reaches into page #, which is write-protected by the card (option byte #, bit #): the loader would leave it as it is. Lift the write protection of that page on the board, then plan again with the card that the board has then.\n",
         page,
-        8 + page / 8 % 2,
+        protection::option_of(page),
         page % 8,
     );
 }

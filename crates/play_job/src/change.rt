@@ -1,6 +1,5 @@
 // Where two memories differ, in words.
-ghost use mathlib.Core.Path.{_≡_};
-ghost use Prim.Native.Nat.{_≤_, _<_};
+ghost use Prim.Native.Nat.{_<_};
 use board::Board;
 
 // The parts that are told apart: the pages, then RAM, then the options.

@@ -11,8 +11,8 @@ use request::Setup;
 // Room for the longest name of a request, or of a mode and a status, and a bar behind each.
 const NAMES_ROOM: usize = 64;
 
-// A part of a sentence as the sentence counts it, and the number in it.
-struct Part {
+// A part of a sentence, as the sentence counts its parts, and the number in it.
+struct Clause {
     part: usize,
     number: usize,
 }
@@ -20,11 +20,11 @@ struct Part {
 // What a request is for: whether it has a block, and the parts that say what is sent or read.
 struct Aim {
     extent: usize,
-    download: Part,
+    download: Clause,
     upload: usize,
 }
 
-const NOTHING: Part = Part { part: 0, number: 0 };
+const NOTHING: Clause = Clause { part: 0, number: 0 };
 
 // What a DNLOAD without a command is for: to leave, or nothing; block 1 has no words.
 fn idle(setup: Setup) -> usize {
@@ -38,23 +38,23 @@ fn idle(setup: Setup) -> usize {
 }
 
 // What a DNLOAD is for.
-fn download(setup: Setup, pending: Pending) -> Part {
+fn download(setup: Setup, pending: Pending) -> Clause {
     match pending {
-        Pending::Nothing => Part {
+        Pending::Nothing => Clause {
             part: idle(setup),
             number: 0,
         },
-        Pending::MassErase => Part { part: 3, number: 0 },
-        Pending::ReadUnprotect => Part { part: 4, number: 0 },
-        Pending::SetPointer(address) => Part {
+        Pending::MassErase => Clause { part: 3, number: 0 },
+        Pending::ReadUnprotect => Clause { part: 4, number: 0 },
+        Pending::SetPointer(address) => Clause {
             part: 5,
             number: address as usize,
         },
-        Pending::ErasePage(address) => Part {
+        Pending::ErasePage(address) => Clause {
             part: 6,
             number: address as usize,
         },
-        Pending::Write { block: _, count: _ } => Part { part: 7, number: 0 },
+        Pending::Write { block: _, count: _ } => Clause { part: 7, number: 0 },
     }
 }
 
@@ -95,16 +95,16 @@ fn aim_of(asked: Asked) -> Aim {
     }
 }
 
-fn answered(answer: Answer) -> Part {
+fn answered(answer: Answer) -> Clause {
     match answer {
         Answer::Accepted => NOTHING,
-        Answer::Reply(count) => Part {
+        Answer::Reply(count) => Clause {
             part: 1,
             number: count,
         },
-        Answer::Stall => Part { part: 2, number: 0 },
-        Answer::Silent => Part { part: 3, number: 0 },
-        Answer::Refused(why) => Part {
+        Answer::Stall => Clause { part: 2, number: 0 },
+        Answer::Silent => Clause { part: 3, number: 0 },
+        Answer::Refused(why) => Clause {
             part: 4,
             number: why.number() as usize,
         },
@@ -119,7 +119,7 @@ pub(crate) fn request(number: usize, pointer: u32, asked: Asked, out: &mut [u8])
     let command = aim.download;
     let from = access::block_address(setup.value, setup.length, pointer) as usize;
     let end = words::request(setup.request(), &mut name, 0);
-    words::say(b"|", &mut name, end);
+    sentence::say(b"|", &mut name, end);
     sentence::fill(
         b"#. [attach|$][||, block #, length #][|, leave|, no command|, mass erase|, read unprotect|, set pointer @|, erase page of @|, write to @][|, list commands||, read from @]",
         &[
@@ -145,9 +145,9 @@ pub(crate) fn request(number: usize, pointer: u32, asked: Asked, out: &mut [u8])
 fn names(device: Device, out: &mut [u8]) {
     let mode = device.mode;
     let end = words::mode(mode, out, 0);
-    let end = words::say(b"|", out, end);
+    let end = sentence::say(b"|", out, end);
     let end = words::status(device.status, out, end);
-    words::say(b"|", out, end);
+    sentence::say(b"|", out, end);
 }
 
 // What became of an event.

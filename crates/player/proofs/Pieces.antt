@@ -28,7 +28,7 @@ use Rattle.loader.specs.Step.{stepOf, steps, admittedOf, sizesOf}
 use Rattle.packed.specs.Packed.{eventIn}
 use Rattle.verdict.specs.World.{steppedOf}
 use Rattle.player.specs.Played.{playedOf}
-use Rattle.player.specs.Asked.{asked, waitsOf, askedOf}
+use Rattle.player.specs.Asked.{askedFor, waitsOf, askedOf}
 
 -- an Attach does not look at the request
 steps-alone : (a : Admission) (n : ℕ) (d : Device) (q m b y : List ℕ) → steps a Attach n d q m b y ≡ steps a Attach n d [] m b y
@@ -54,7 +54,7 @@ behind-end piece count h =
     (drop-length piece ∙ sym (drop-of-length-le piece k), le-refl _)
 
 -- what is asked for, found from parts of the piece
-pub asked-by : (e : Event) (s : Setup) (w : Pending) (k : Command) (x : Decision) (from stage : ℕ) (piece : List ℕ) → e ≡ cond (eqb (getD piece 0 0) 0) Attach Request → drop from piece ≡ drop 1 piece → drop stage piece ≡ drop 9 piece → s ≡ setupOf (take (length piece - from) (drop from piece)) → k ≡ commandOf (take (length piece - stage) (drop stage piece)) → x ≡ decideOf started s k → w ≡ waitsOf x → asked e s w ≡ askedOf piece
+pub asked-by : (e : Event) (s : Setup) (w : Pending) (k : Command) (x : Decision) (from stage : ℕ) (piece : List ℕ) → e ≡ cond (eqb (getD piece 0 0) 0) Attach Request → drop from piece ≡ drop 1 piece → drop stage piece ≡ drop 9 piece → s ≡ setupOf (take (length piece - from) (drop from piece)) → k ≡ commandOf (take (length piece - stage) (drop stage piece)) → x ≡ decideOf started s k → w ≡ waitsOf x → askedFor e s w ≡ askedOf piece
 unfolding askedOf
 asked-by e s w k x from stage piece he hf hg hs hk hx hw =
     rw (hw, hx, hs, hk, he, rest-is from piece, rest-is stage piece, hf, hg) refl

@@ -29,11 +29,11 @@ waitsOf State = Nothing
 waitsOf Status = Nothing
 
 -- the three in one
-abbrev pub asked : Event → Setup → Pending → Asked
-asked event setup pending = record { event = event; setup = setup; pending = pending }
+abbrev pub askedFor : Event → Setup → Pending → Asked
+askedFor event setup pending = record { event = event; setup = setup; pending = pending }
 
 -- what a piece is, its setup, and the command that its data spells: the one that it leaves on a board just attached
 unfoldable pub askedOf : List ℕ → Asked
 askedOf piece =
-    asked (cond (eqb (getD piece 0 0) 0) Attach Request) (setupOf (drop 1 piece))
+    askedFor (cond (eqb (getD piece 0 0) 0) Attach Request) (setupOf (drop 1 piece))
     (waitsOf (decideOf started (setupOf (drop 1 piece)) (commandOf (drop 9 piece))))

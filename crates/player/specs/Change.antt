@@ -1,4 +1,4 @@
--- Where two memories differ. Assumes nothing.
+-- Where two memories differ: for the words of programs, and no rule of the paper. Assumes nothing.
 use mathlib.Core.Bool.{cond}
 use mathlib.Core.List.{List}
 use Prim.Native.Nat.{ℕ, zero, suc}

@@ -30,3 +30,7 @@ writeProtected word page = eqb (word / 2 ^ page % 2) 0
 unfoldable pub anyProtected : ℕ → ℕ → ℕ → Bool
 anyProtected word zero page = false
 anyProtected word (suc count) page = writeProtected word page || anyProtected word count (suc page)
+
+-- "Bytes 8 and 9 .. hold one bit a page": the one that holds the bit of this page, eight pages a byte
+abbrev pub optionOf : ℕ → ℕ
+optionOf page = 8 + page / 8 % 2

@@ -1,6 +1,6 @@
 // What the option bytes protect: reading and writing as a whole, and each page by its bit.
 ghost use mathlib.Core.Path.{_≡_};
-ghost use Rattle.protection.specs.Protection.{lockedFrom, wordFrom, writeProtected, anyProtected, wordOf, readProtected};
+ghost use Rattle.protection.specs.Protection.{lockedFrom, wordFrom, writeProtected, anyProtected, optionOf, wordOf, readProtected};
 use board::Board;
 
 // Do the option bytes that begin at place `from` forbid reading and writing?
@@ -55,4 +55,11 @@ pub fn any_protected(word: u32, count: usize) -> bool
         page += 1;
     }
     any
+}
+
+// The option byte that holds the page's bit.
+pub fn option_of(page: usize) -> usize
+    ensures { λ r. ⌜ r ≡ optionOf page ⌝ }
+{
+    8 + page / 8 % 2
 }

@@ -1,4 +1,5 @@
-// Every refusal of every call, in one enum, with its number and the line that it names; and the answers that a refusal can be part of.
+// Every refusal of every call, in one enum, with its number and the line that it names; and the answers that a refusal
+// can be part of.
 ghost use mathlib.Core.Path.{_≡_};
 ghost use Rattle.refusal.specs.Refusal.{numberOf, lineNamed};
 

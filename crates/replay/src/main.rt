@@ -8,7 +8,7 @@ mod record;
 mod scene;
 
 use device::Device;
-use scene::Scene;
+use scene::Lending;
 
 // Room for a record with the longest request behind it, and for every buffer a byte longer than is right.
 const TAPE_ROOM: usize = record::SIZE + record::LONGEST;
@@ -39,14 +39,14 @@ fn happen(
 
 // The step is lent the request behind the record, and the front of each buffer.
 fn lend(
-    scene: Scene,
+    lending: Lending,
     tape: &[u8],
     memory: &mut [u8],
     block: &mut [u8],
     reply: &mut [u8],
 ) -> Device {
-    let device = scene.device;
-    let ends = scene::ends_of(scene, tape.len(), memory.len(), block.len(), reply.len());
+    let device = lending.device;
+    let ends = scene::ends_of(lending, tape.len(), memory.len(), block.len(), reply.len());
     let from = ends.from;
     let to = ends.to;
     let m = ends.memory;
@@ -54,7 +54,7 @@ fn lend(
     let y = ends.reply;
     happen(
         device,
-        scene.kind,
+        lending.kind,
         &tape[from..to],
         &mut memory[0..m],
         &mut block[0..b],
@@ -63,16 +63,16 @@ fn lend(
 }
 
 fn turn(
-    before: Scene,
+    before: Lending,
     tape: &[u8],
     memory: &mut [u8],
     block: &mut [u8],
     reply: &mut [u8],
-) -> Scene {
-    let scene = scene::after(before, tape);
+) -> Lending {
+    let lending = scene::after(before, tape);
     scene::paint(tape, memory, block, reply);
-    let device = lend(scene, tape, memory, block, reply);
-    Scene { device, ..scene }
+    let device = lend(lending, tape, memory, block, reply);
+    Lending { device, ..lending }
 }
 
 // How many events there were.
@@ -83,12 +83,12 @@ fn replay(
     block: &mut [u8],
     reply: &mut [u8],
 ) -> usize {
-    let mut scene = scene::empty();
+    let mut lending = scene::empty();
     let mut events = 0;
     let mut count = 0;
     while count < feed::MOST && record::next(fd, tape) {
-        scene = turn(scene, tape, memory, block, reply);
-        events += record::events(scene.kind);
+        lending = turn(lending, tape, memory, block, reply);
+        events += record::events(lending.kind);
         count += 1;
     }
     events

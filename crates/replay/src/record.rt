@@ -5,8 +5,8 @@ use crate::codes::Spelled;
 use buffer::byte_at;
 use device::Device;
 use loader::Event;
-use vectors::pair;
-use vectors::quad;
+use numbers::pair;
+use numbers::quad;
 
 pub const SIZE: usize = 48;
 

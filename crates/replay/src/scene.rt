@@ -2,10 +2,9 @@
 ghost use Prim.Native.Nat.{_≤_};
 use crate::record;
 use buffer::byte_at;
+use buffer::least;
 use device::Device;
-use device::Pending;
-use mode::Mode;
-use vectors::lent;
+use numbers::lent;
 use vectors::ramp;
 
 const MEMORY: u16 = 18448;
@@ -14,8 +13,8 @@ const BLOCK: u16 = 2048;
 
 const REPLY: u16 = 2048;
 
-// The same as numbers of bytes to paint: memory, its flash, the option bytes at its end; block and reply buffer with the
-// byte that is too much.
+// The same as numbers of bytes to paint: memory, its flash, the option bytes at its end; block and reply buffer with
+// the byte that is too much.
 const ALL: usize = 18448;
 
 const FLASH: usize = 16384;
@@ -26,10 +25,8 @@ const OPTIONS_AT: usize = ALL - OPTIONS;
 
 const OTHERS: usize = 2049;
 
-const FLASH_START: u32 = 0x08000000;
-
-// The kind of the last record, how long its request is, and how much of each buffer the step is lent.
-pub struct Scene {
+// What the step is lent: the device, a request of this length, and so much of each buffer; and the last record's kind.
+pub struct Lending {
     pub device: Device,
     pub kind: u8,
     pub request: usize,
@@ -61,34 +58,29 @@ struct Strokes {
     others: usize,
 }
 
-fn least(a: usize, b: usize) -> usize
-    ensures { λ r. ⌜ (r ≤ a) × (r ≤ b) ⌝ }
-{
-    if a < b { a } else { b }
-}
-
-pub(crate) fn ends_of(scene: Scene, tape: usize, memory: usize, block: usize, reply: usize) -> Ends
+pub(crate) fn ends_of(
+    lending: Lending,
+    tape: usize,
+    memory: usize,
+    block: usize,
+    reply: usize,
+) -> Ends
     ensures { λ r. ⌜ (r .from ≤ r .to) × (r .to ≤ tape) ⌝ }
     ensures { λ r. ⌜ (r .memory ≤ memory) × (r .block ≤ block) × (r .reply ≤ reply) ⌝ }
 {
-    let to = least(record::SIZE + least(scene.request, record::LONGEST), tape);
+    let to = least(record::SIZE + least(lending.request, record::LONGEST), tape);
     Ends {
         from: least(record::SIZE, to),
         to,
-        memory: least(scene.memory, memory),
-        block: least(scene.block, block),
-        reply: least(scene.reply, reply),
+        memory: least(lending.memory, memory),
+        block: least(lending.block, block),
+        reply: least(lending.reply, reply),
     }
 }
 
-pub(crate) fn empty() -> Scene {
-    Scene {
-        device: Device {
-            mode: Mode::Idle,
-            status: 0,
-            pointer: FLASH_START,
-            pending: Pending::Nothing,
-        },
+pub(crate) fn empty() -> Lending {
+    Lending {
+        device: Device::START,
         kind: record::SCENE,
         request: 0,
         memory: 0,
@@ -97,24 +89,25 @@ pub(crate) fn empty() -> Scene {
     }
 }
 
-// The scene that a record makes of the one before. Lengths are codes: right, a byte short, a byte long, or empty.
-pub(crate) fn after(scene: Scene, tape: &[u8]) -> Scene {
+// What is lent behind a record, from what was lent before it. Lengths are codes: right, a byte short, a byte long, or
+// empty.
+pub(crate) fn after(lending: Lending, tape: &[u8]) -> Lending {
     match byte_at(tape, 0) {
-        record::SCENE => Scene {
+        record::SCENE => Lending {
             memory: lent(byte_at(tape, 19), MEMORY),
             block: lent(byte_at(tape, 20), BLOCK),
             reply: lent(byte_at(tape, 21), REPLY),
             ..empty()
         },
-        record::DEVICE => Scene {
+        record::DEVICE => Lending {
             device: record::device(tape),
             kind: record::DEVICE,
-            ..scene
+            ..lending
         },
-        kind => Scene {
+        kind => Lending {
             kind,
-            request: record::length(kind, byte_at(tape, 9), vectors::pair(tape, 10)),
-            ..scene
+            request: record::length(kind, byte_at(tape, 9), numbers::pair(tape, 10)),
+            ..lending
         },
     }
 }
@@ -174,7 +167,7 @@ fn strokes_of(tape: &[u8]) -> Strokes {
         plain: 0,
         byte: 0,
         options: 0,
-        place: vectors::quad(tape, 4) as usize,
+        place: numbers::quad(tape, 4) as usize,
         poked: 0,
         poke: byte_at(tape, 8),
         others: 0,

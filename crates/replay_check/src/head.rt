@@ -1,7 +1,7 @@
 // The header of a job, and the head of a chunk of its text; numbers have their low byte first.
 ghost use Prim.Native.Nat.{_≤_};
 use buffer::byte_at;
-use vectors::pair;
+use numbers::pair;
 
 pub const JOB: usize = 48;
 
@@ -56,7 +56,7 @@ pub(crate) fn job_of(header: &[u8]) -> Job
         image: pair(header, 2) as usize,
         factor: byte_at(header, 4),
         seed: byte_at(header, 5),
-        work: vectors::lent(byte_at(header, 6), WORK),
+        work: numbers::lent(byte_at(header, 6), WORK),
         card_end: CARD + card,
         work_seed: byte_at(header, 40),
         work_step: byte_at(header, 41),

@@ -39,7 +39,7 @@ fn print_digest(is_refused: bool, work: &[u8]) {
 pub(crate) fn print(verdict: Verdict, work: &[u8]) {
     let mut line = [0u8; ROOM];
     let done = verdict::report(verdict, &mut line);
-    let told = vectors::told(done);
+    let told = numbers::told(done);
     let is_refused = is_refused(verdict);
     io::write_all(STDOUT_FILENO, &line[0..shown(told.count, is_refused)]);
     print_digest(is_refused, work);

@@ -11,12 +11,6 @@ struct Made {
     literal: u16,
 }
 
-fn least(a: usize, b: usize) -> usize
-    ensures { λ r. ⌜ (r ≤ a) × (r ≤ b) ⌝ }
-{
-    if a < b { a } else { b }
-}
-
 // The digits of the bytes of a ramp from place `from` up to place `to` go behind the text; gives how long it is then.
 fn spell(text: &mut [u8], size: usize, ramp: &[u8], from: usize, to: usize) -> usize {
     if ramp.len() < to {
@@ -73,5 +67,5 @@ pub(crate) fn read(fd: i32, text: &mut [u8], ramp: &mut [u8]) -> usize
         made = add(fd, made, head::chunk_of(&head), text, ramp);
         left -= 1;
     }
-    least(made.size, text.len())
+    buffer::least(made.size, text.len())
 }

@@ -1,7 +1,7 @@
 // The head of a vector: 16 bytes, numbers low byte first.
 use buffer::byte_at;
-use vectors::pair;
-use vectors::quad;
+use numbers::pair;
+use numbers::quad;
 
 pub const SIZE: usize = 16;
 

@@ -1,4 +1,4 @@
-// Replays the file vectors.bin through the job crate, and prints a line for each call.
+// Replays the file vectors.bin through the crates job and text, and prints a line for each call.
 //
 // model/job_vectors.py makes the file and the text that this program has to print, and says what both mean.
 mod head;
@@ -12,7 +12,7 @@ const ROOM: usize = 61000;
 
 // What a call answered, and what it left in its buffer; which call it was is picked by number.
 fn print(call: usize, done: Done, out: &[u8]) {
-    let told = vectors::told(done);
+    let told = numbers::told(done);
     feed::print(
         b"[R|W|R|M] # # # #\n",
         &[

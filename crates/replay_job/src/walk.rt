@@ -1,4 +1,4 @@
-// A walk over a text by `text::item_at`, and its line.
+// A walk over a text by `text::item_at`: the events that it meets, and the digest of its items.
 use text::Item;
 
 // Where the walk is, the events that it met, the digest of its items, and whether it is over: 1 at the end, 2 at a

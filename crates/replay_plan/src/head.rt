@@ -1,8 +1,8 @@
 // A vector: 48 bytes, numbers low byte first.
 ghost use Prim.Native.Nat.{_≤_};
 use buffer::byte_at;
-use vectors::pair;
-use vectors::quad;
+use numbers::pair;
+use numbers::quad;
 
 pub const SIZE: usize = 48;
 

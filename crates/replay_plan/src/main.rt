@@ -30,7 +30,7 @@ fn scatter(out: &mut [u8], count: usize, seed: u32) {
 // What the call answered, and what it left in the whole buffer.
 fn perform(image: &[u8], card: &[u8], out: &mut [u8]) {
     let done = plan::plan(image, card, out);
-    let told = vectors::told(done);
+    let told = numbers::told(done);
     feed::print(b"# # #\n", &[told.number, told.count, vectors::digest(out)]);
 }
 

@@ -1,3 +1,4 @@
+pub mod Said
 pub mod Texts
 pub mod Parts
 pub mod Spelled

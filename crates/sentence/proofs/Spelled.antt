@@ -1,11 +1,11 @@
 -- What a byte of a template says, by the mark that it is. Assumes nothing.
-use mathlib.Core.Path.{_≡_, _∙_, ap₂}
+use mathlib.Core.Path.{_≡_}
 use mathlib.Core.List.{List, [], _∷_}
-use Prim.Native.Nat.{ℕ, _/_, _%_}
+use Prim.Native.Nat.{ℕ, _%_}
 use borrow.Author.Tests.{ne-eqb}
-use Rattle.hex.specs.Hex.{digitOf, hexOf}
+use Rattle.hex.specs.Hex.{hexOf}
 use Rattle.decimal.specs.Decimal.{decimalOf}
-use Rattle.words.specs.Words.{Said, saidOf, addressOf}
+use Rattle.sentence.specs.Said.{addressOf}
 use Rattle.sentence.specs.Sentence.{number, address, byte, text, opens, bar, closes, spelledOf}
 
 pub spelled-number : {b : ℕ} (n : ℕ) (t : List ℕ) → b ≡ number → spelledOf b n t ≡ decimalOf n
@@ -39,8 +39,3 @@ spelled-closes n t e = rw e
 pub spelled-self : {b : ℕ} (n : ℕ) (t : List ℕ) → (b ≡ number → ⊥) → (b ≡ address → ⊥) → (b ≡ byte → ⊥) → (b ≡ text → ⊥) → (b ≡ opens → ⊥) → (b ≡ bar → ⊥) → (b ≡ closes → ⊥) → spelledOf b n t ≡ b ∷ []
 unfolding spelledOf
 spelled-self n t h₁ h₂ h₃ h₄ h₅ h₆ h₇ = rw (ne-eqb _ number h₁, ne-eqb _ address h₂, ne-eqb _ byte h₃, ne-eqb _ text h₄, ne-eqb _ opens h₅, ne-eqb _ bar h₆, ne-eqb _ closes h₇)
-
--- the two digits of a byte
-pub said-digits : {s : Said} (x high low : ℕ) (out : List ℕ) (at : ℕ) → high ≡ digitOf (x / 16) → low ≡ digitOf x → s ≡ saidOf (high ∷ low ∷ []) out at → s ≡ saidOf (hexOf (x ∷ [])) out at
-unfolding hexOf
-said-digits x high low out at h l is = is ∙ ap₂ (λ (a : ℕ) (b : ℕ). saidOf (a ∷ b ∷ []) out at) h l

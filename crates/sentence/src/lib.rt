@@ -3,20 +3,82 @@
 // In a template # stands for a number in decimal, @ for one as an address, % for one as a byte in two digits, $ for a
 // text, and [a|b|c] for the part that a number picks, counted from 0, or for the last where there are not so many. Each
 // of them takes the next number or text, also in a part that is not picked. All else stands for itself.
+//
+// Words go into a lent buffer one behind the other, and each call gives the place behind them. What finds no room is
+// left out, so that no caller has to reckon how long a line becomes.
 ghost use mathlib.Core.Path.{_≡_};
 ghost use mathlib.Core.Bool.{cond};
 ghost use mathlib.Core.List.{[], _∷_};
 ghost use Prim.Native.Nat.{_+_, _≤_, _<_};
-ghost use lib.Dec.{eqb, ltb};
+ghost use lib.Dec.{eqb};
 ghost use lib.ListN.{length, drop, getD};
 ghost use Rattle.hex.specs.Hex.{hexOf};
-ghost use Rattle.words.specs.Words.{left, saidOf};
+ghost use Rattle.decimal.specs.Decimal.{decimalOf};
+ghost use Rattle.sentence.specs.Said.{left, saidOf, highFirst, addressOf};
 ghost use Rattle.sentence.specs.Sentence.{firstText, spelledOf, takesOf, leftTexts, partOf, barsOf, pickedOf, sentenceOf};
 
 // How many bytes and how many addresses there are.
 const BYTES: usize = 0x100;
 
 const ADDRESSES: usize = 0x1_0000_0000;
+
+// The most digits that a number has, and a byte behind them.
+const DIGITS: usize = 21;
+
+// The bytes of `text` go over those of `out` from place `at` on, as many as there is room for.
+pub fn say(text: &[u8], out: &mut [u8], at: usize) -> usize
+    ensures { λ r. ⌜ left r (now (out .exit)) ≡ saidOf (now (text .entry)) (now (out .entry)) at ⌝ }
+{
+    if out.len() <= at {
+        return at;
+    }
+    let room = out.len() - at;
+    if room < text.len() {
+        buffer::put(out, at, &text[0..room]);
+        return out.len();
+    }
+    buffer::put(out, at, text);
+    at + text.len()
+}
+
+// The number in decimal.
+fn decimal(number: usize, out: &mut [u8], at: usize) -> usize
+    ensures { λ r. ⌜ left r (now (out .exit)) ≡ saidOf (decimalOf number) (now (out .entry)) at ⌝ }
+{
+    let mut digits = [0u8; DIGITS];
+    let end = decimal::write_field(number, b' ', &mut digits, 0);
+    say(&digits[0..end - 1], out, at)
+}
+
+// The four bytes of a number, high byte first.
+fn high_first(number: u32) -> [u8; 4]
+    ensures { λ r. ⌜ r ≡ highFirst number ⌝ }
+{
+    [
+        (number / 16777216) as u8,
+        (number / 65536 % 256) as u8,
+        (number / 256 % 256) as u8,
+        (number % 256) as u8,
+    ]
+}
+
+// The address in hexadecimal: eight digits behind 0x.
+fn address(address: u32, out: &mut [u8], at: usize) -> usize
+    ensures { λ r. ⌜ left r (now (out .exit)) ≡ saidOf (addressOf address) (now (out .entry)) at ⌝ }
+{
+    let mut digits = *b"0x00000000";
+    hex::encode(&high_first(address), &mut digits, 2);
+    say(&digits, out, at)
+}
+
+// A byte's two digits.
+fn digits(byte: u8, out: &mut [u8], at: usize) -> usize
+    ensures { λ r. ⌜ left r (now (out .exit)) ≡ saidOf (hexOf (byte ∷ [])) (now (out .entry)) at ⌝ }
+{
+    let mut field = *b"00";
+    hex::encode(&[byte], &mut field, 0);
+    say(&field, out, at)
+}
 
 // The number at a place, or 0 past the end.
 fn number_at(numbers: &[usize], at: usize) -> usize
@@ -43,13 +105,6 @@ fn text_end(texts: &[u8], from: usize) -> usize
     i
 }
 
-// A byte's two digits.
-fn digits(byte: u8, out: &mut [u8], at: usize) -> usize
-    ensures { λ r. ⌜ left r (now (out .exit)) ≡ saidOf (hexOf (byte ∷ [])) (now (out .entry)) at ⌝ }
-{
-    words::say(&[hex::digit(byte / 16), hex::digit(byte)], out, at)
-}
-
 // What a byte of the template comes to, with the next number and the next text; nothing where its part is not picked.
 fn spell(is_picked: bool, byte: u8, number: usize, text: &[u8], out: &mut [u8], at: usize) -> usize
     ensures { λ r. ⌜ left r (now (out .exit)) ≡ saidOf (cond «is_picked» (spelledOf byte number (now (text .entry))) []) (now (out .entry)) at ⌝ }
@@ -58,14 +113,14 @@ fn spell(is_picked: bool, byte: u8, number: usize, text: &[u8], out: &mut [u8], 
         return at;
     }
     match byte {
-        b'#' => words::decimal(number, out, at),
-        b'@' => words::address((number % ADDRESSES) as u32, out, at),
+        b'#' => decimal(number, out, at),
+        b'@' => address((number % ADDRESSES) as u32, out, at),
         b'%' => digits((number % BYTES) as u8, out, at),
-        b'$' => words::say(text, out, at),
+        b'$' => say(text, out, at),
         b'[' => at,
         b'|' => at,
         b']' => at,
-        _ => words::say(&[byte], out, at),
+        _ => say(&[byte], out, at),
     }
 }
 
@@ -109,13 +164,6 @@ fn part_after(byte: u8, part: usize) -> usize
     }
 }
 
-// The smaller of two.
-fn least(a: usize, b: usize) -> usize
-    ensures { λ r. ⌜ r ≡ cond (ltb a b) a b ⌝ }
-{
-    if a < b { a } else { b }
-}
-
 // Is the byte a bar? As a number, for a loop to count.
 fn bar(byte: u8) -> usize
     ensures { λ r. ⌜ (r ≡ cond (eqb byte 124) 1 0) × (r ≤ 1) ⌝ }
@@ -145,7 +193,7 @@ fn picked_after(byte: u8, picked: usize, number: usize, rest: &[u8]) -> usize
     ensures { λ r. ⌜ r ≡ pickedOf byte picked number (now (rest .entry)) ⌝ }
 {
     match byte {
-        b'[' => least(number, bars(rest)),
+        b'[' => buffer::least(number, bars(rest)),
         b']' => 0,
         _ => picked,
     }

@@ -1,6 +1,6 @@
 -- Laws of a life: the board before it, a turn, and both ends. Assumes nothing.
-use mathlib.Core.Path.{_≡_, refl, ap, _∙_, sym}
-use mathlib.Core.Bool.{Bool, cond}
+use mathlib.Core.Path.{_≡_, refl, ap, _∙_}
+use mathlib.Core.Bool.{Bool}
 use mathlib.Core.List.{List}
 use Prim.Native.Nat.{ℕ, zero, suc, _+_, _-_, _≤_, _<_}
 use native.Mathlib.Omega.{arith}
@@ -13,14 +13,13 @@ use Rattle.laws.proofs.Bytes.{rest-is}
 use Rattle.board.specs.Layout.{loggerPages, optionsFrom, optionBytes, memoryBytes}
 use Rattle.protection.specs.Protection.{readProtected}
 use Rattle.request.specs.Request.{transferBytes}
-use Rattle.device.specs.declared.Device.{Device}
 use Rattle.loader.specs.declared.Stepped.{Stepped}
-use Rattle.loader.specs.Answer.{Outcome, left}
+use Rattle.loader.specs.Answer.{left}
 use Rattle.packed.specs.Ways.{pieceLength}
 use Rattle.player.specs.Played.{playedOf}
 use Rattle.player.specs.Change.{firstChange}
 use Rattle.trial.specs.declared.Scene.{Scene}
-use Rattle.trial.specs.Trial.{leavingOf, fresh, nextOf, Life, life, onward, turnOf, livesOf, firstWritten, targetOf, surveyed, equipped, zeros, lastOf, runOf}
+use Rattle.trial.specs.Trial.{unplayed, nextOf, Life, life, livedOn, turnOf, livesOf, firstWritten, targetOf, surveyed, equipped, zeros, lastOf, trialOf}
 
 -- the memory with a card, and without
 pub equip-card : (old : ℕ) (card m f r : List ℕ) → length card ≡ optionBytes → f ≡ filled 0 (optionsFrom loggerPages) old m → r ≡ put (optionsFrom loggerPages) card f → r ≡ equipped old card m
@@ -39,8 +38,8 @@ module _ (p : List ℕ) (place line : ℕ) (s : Scene) (m b y : List ℕ) (n : �
       let k : n ≡ pieceLength (drop (s .at) p) = is ∙ ap pieceLength (rest-is (s .at) p) in
       let e : s .at + n - s .at ≡ n = omega arith in
       let o : left stepped m′ b′ y′ ≡ playedOf (s .device) (take n (drop (s .at) p)) m b y = happened ∙ ap (λ (i : ℕ). playedOf (s .device) (take i (drop (s .at) p)) m b y) e in
-      let h : life r m′ b′ y′ ≡ onward s place line (s .at + n) (left stepped m′ b′ y′) = rw (noted, watched) refl in
-      h ∙ ap (onward s place line (s .at + n)) o ∙ ap (λ (i : ℕ). onward s place line (s .at + i) (playedOf (s .device) (take i (drop (s .at) p)) m b y)) k
+      let h : life r m′ b′ y′ ≡ livedOn s place line (s .at + n) (left stepped m′ b′ y′) = rw (noted, watched) refl in
+      h ∙ ap (livedOn s place line (s .at + n)) o ∙ ap (λ (i : ℕ). livedOn s place line (s .at + i) (playedOf (s .device) (take i (drop (s .at) p)) m b y)) k
 
   pub turn-within : s .at ≤ length p → n ≤ length (take (length p - s .at) (drop (s .at) p)) → r .at ≤ length p
   turn-within h w =
@@ -49,7 +48,7 @@ module _ (p : List ℕ) (place line : ℕ) (s : Scene) (m b y : List ℕ) (n : �
       rw noted k
 
 -- so many events, from their first on
-pub lives-start : (p : List ℕ) (place events : ℕ) (s : Scene) (byte : ℕ) (m b y : List ℕ) → s ≡ fresh byte → byte ≡ getD m place 0 → livesOf p place (events - 0) 0 (life s m b y) ≡ livesOf p place events 0 (life (fresh (getD m place 0)) m b y)
+pub lives-start : (p : List ℕ) (place events : ℕ) (s : Scene) (byte : ℕ) (m b y : List ℕ) → s ≡ unplayed byte → byte ≡ getD m place 0 → livesOf p place (events - 0) 0 (life s m b y) ≡ livesOf p place events 0 (life (unplayed (getD m place 0)) m b y)
 lives-start p place events s byte m b y e h =
     let k : events - 0 ≡ events = omega arith in
     rw (k, e, h) refl
@@ -83,7 +82,7 @@ survey-is s m card from dirt altered locked hf hl hd ha =
     rw (ha, hd, hl, hf, rest-is (optionsFrom loggerPages) m) refl
 
 -- the whole, from what its parts came to
-pub run-is : (p : List ℕ) (events : ℕ) (card : List ℕ) (old place : ℕ) (m m′ b y : List ℕ) (s r : Scene) → m ≡ equipped old card (zeros (memoryBytes loggerPages)) → life s m′ b y ≡ livesOf p place events 0 (life (fresh (getD m place 0)) m (zeros transferBytes) (zeros transferBytes)) → r ≡ surveyed s m′ card → r ≡ runOf p events card old place
-unfolding runOf
-run-is p events card old place m m′ b y s r he hl hr =
-    hr ∙ ap (lastOf card) hl ∙ ap (λ (n : List ℕ). lastOf card (livesOf p place events 0 (life (fresh (getD n place 0)) n (zeros transferBytes) (zeros transferBytes)))) he
+pub trial-is : (p : List ℕ) (events : ℕ) (card : List ℕ) (old place : ℕ) (m m′ b y : List ℕ) (s r : Scene) → m ≡ equipped old card (zeros (memoryBytes loggerPages)) → life s m′ b y ≡ livesOf p place events 0 (life (unplayed (getD m place 0)) m (zeros transferBytes) (zeros transferBytes)) → r ≡ surveyed s m′ card → r ≡ trialOf p events card old place
+unfolding trialOf
+trial-is p events card old place m m′ b y s r he hl hr =
+    hr ∙ ap (lastOf card) hl ∙ ap (λ (n : List ℕ). lastOf card (livesOf p place events 0 (life (unplayed (getD n place 0)) n (zeros transferBytes) (zeros transferBytes)))) he

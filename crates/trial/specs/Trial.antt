@@ -1,5 +1,5 @@
 -- A single board that lives through a packed job: no rule of the paper, but what explanations go by. Assumes nothing.
-use mathlib.Core.Bool.{Bool, false, cond, _||_}
+use mathlib.Core.Bool.{false, cond, _||_}
 use mathlib.Core.List.{List}
 use Prim.Native.Nat.{ℕ, zero, suc, _+_, _-_, _/_, _%_}
 use lib.Dec.{eqb, ltb}
@@ -34,8 +34,8 @@ leavingOf Left = 1
 leavingOf Rebooting = 0
 
 -- nothing has happened yet, and the watched byte is this one
-abbrev pub fresh : ℕ → Scene
-fresh byte = record { device = started; count = 0; at = 0; byte = byte; changed = 0; earlier = 0; pointed = 0; left = 0; «is_protected» = false; dirt = 0; altered = 0 }
+abbrev pub unplayed : ℕ → Scene
+unplayed byte = record { device = started; count = 0; at = 0; byte = byte; changed = 0; earlier = 0; pointed = 0; left = 0; «is_protected» = false; dirt = 0; altered = 0 }
 
 -- the event in this line, up to place `at` of the job, leaves the device and the byte so; the line is noted for what it changed
 abbrev pub nextOf : Scene → ℕ → ℕ → Device → ℕ → Scene
@@ -66,14 +66,14 @@ abbrev pub life : Scene → List ℕ → List ℕ → List ℕ → Life
 life s m b y = record { scene = s; memory = m; block = b; reply = y }
 
 -- the board after what an event left; the byte at `place` is watched
-abbrev pub onward : Scene → ℕ → ℕ → ℕ → Outcome → Life
-onward s place line end o = life (nextOf s line end (o .device) (getD (o .memory) place 0)) (o .memory) (o .block) (o .reply)
+abbrev pub livedOn : Scene → ℕ → ℕ → ℕ → Outcome → Life
+livedOn s place line end o = life (nextOf s line end (o .device) (getD (o .memory) place 0)) (o .memory) (o .block) (o .reply)
 
 -- the next event of the job happens, in this line
 unfoldable pub turnOf : List ℕ → ℕ → ℕ → Life → Life
 turnOf packed place line l =
     let rest = drop (l .scene .at) packed in
-    onward (l .scene) place line (l .scene .at + pieceLength rest)
+    livedOn (l .scene) place line (l .scene .at + pieceLength rest)
     (playedOf (l .scene .device) (take (pieceLength rest) rest) (l .memory) (l .block) (l .reply))
 
 -- the next so many events, as far as the job has them; `line` is the last that happened
@@ -124,12 +124,12 @@ zeros n = replicate n 0
 
 -- a board with this memory that was just plugged in
 abbrev pub born : ℕ → List ℕ → Life
-born place m = life (fresh (getD m place 0)) m (zeros transferBytes) (zeros transferBytes)
+born place m = life (unplayed (getD m place 0)) m (zeros transferBytes) (zeros transferBytes)
 
 -- what is known in the end
 abbrev pub lastOf : List ℕ → Life → Scene
 lastOf card l = surveyed (l .scene) (l .memory) card
 
 -- the first events of a job on a board with this card, whose flash and RAM were all `old`; the byte at `place` is watched
-unfoldable pub runOf : List ℕ → ℕ → List ℕ → ℕ → ℕ → Scene
-runOf packed events card old place = lastOf card (livesOf packed place events 0 (born place (equipped old card (zeros (memoryBytes loggerPages)))))
+unfoldable pub trialOf : List ℕ → ℕ → List ℕ → ℕ → ℕ → Scene
+trialOf packed events card old place = lastOf card (livesOf packed place events 0 (born place (equipped old card (zeros (memoryBytes loggerPages)))))

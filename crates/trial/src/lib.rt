@@ -8,20 +8,21 @@ ghost use mathlib.Core.Bool.{cond};
 ghost use Prim.Native.Nat.{_-_, _≤_};
 ghost use lib.ListN.{length, getD};
 ghost use Rattle.board.specs.Layout.{loggerPages, memoryBytes};
-ghost use Rattle.trial.specs.Trial.{leavingOf, fresh, nextOf, life, turnOf, livesOf, firstWritten, targetOf, surveyed, equipped, runOf};
+ghost use Rattle.trial.specs.Trial.{leavingOf, unplayed, nextOf, life, turnOf, livesOf, firstWritten, targetOf, surveyed, equipped, trialOf};
 use board::Board;
 use device::Device;
 use device::Pending;
 use mode::Mode;
 use request::Setup;
 
+// The board's memory: flash, then RAM, then the option bytes, at which place they begin and how many they are.
 const FLASH: usize = Board::LOGGER.pages as usize * Board::PAGE;
 
 pub const OPTIONS_AT: usize = FLASH + Board::RAM_BYTES;
 
-const MEMORY: usize = OPTIONS_AT + OPTIONS;
-
 pub const OPTIONS: usize = Board::OPTION_BYTES;
+
+const MEMORY: usize = OPTIONS_AT + OPTIONS;
 
 const TRANSFER: usize = Setup::TRANSFER as usize;
 
@@ -30,8 +31,9 @@ const TRANSFER: usize = Setup::TRANSFER as usize;
 //
 // `byte` is the byte that is watched; the last line that changed it, and the one before that which did; the last line
 // that moved the pointer, and the last by which the loader leaves, or stays after all. Then, of the memory: is it
-// read-protected, where is the first byte in the way of the write that waits, and which is the first option byte that
-// is not the card's?
+// read-protected; `dirt`, the first place whose byte is neither erased nor in a write-protected page, from where the
+// write that waits begins in flash, or from the front where none waits; and the first option byte that is not the
+// card's.
 pub struct Scene {
     pub device: Device,
     pub count: usize,
@@ -83,7 +85,7 @@ fn latest(is_same: bool, last: usize, line: usize) -> usize
 
 // Nothing has happened yet.
 fn first(byte: u8) -> Scene
-    ensures { λ r. ⌜ r ≡ fresh byte ⌝ }
+    ensures { λ r. ⌜ r ≡ unplayed byte ⌝ }
 {
     Scene {
         device: Device::START,
@@ -150,7 +152,7 @@ fn live(
     block: &mut [u8],
     reply: &mut [u8],
 ) -> Scene
-    ensures { λ r. ⌜ life r (now (memory .exit)) (now (block .exit)) (now (reply .exit)) ≡ livesOf (now (packed .entry)) place events 0 (life (fresh (getD (now (memory .entry)) place 0)) (now (memory .entry)) (now (block .entry)) (now (reply .entry))) ⌝ }
+    ensures { λ r. ⌜ life r (now (memory .exit)) (now (block .exit)) (now (reply .exit)) ≡ livesOf (now (packed .entry)) place events 0 (life (unplayed (getD (now (memory .entry)) place 0)) (now (memory .entry)) (now (block .entry)) (now (reply .entry))) ⌝ }
 {
     let mut scene = first(buffer::byte_at(memory, place));
     let mut count = 0;
@@ -213,7 +215,7 @@ fn survey(scene: Scene, memory: &[u8], card: &[u8]) -> Scene
 
 // The first `events` events of a job on a board with this card, whose flash and RAM were all `old`.
 pub fn run(packed: &[u8], events: usize, card: &[u8], old: u8, place: usize) -> Scene
-    ensures { λ r. ⌜ r ≡ runOf (now (packed .entry)) events (now (card .entry)) old place ⌝ }
+    ensures { λ r. ⌜ r ≡ trialOf (now (packed .entry)) events (now (card .entry)) old place ⌝ }
 {
     let mut memory = [0u8; MEMORY];
     let mut block = [0u8; TRANSFER];

@@ -1,7 +1,7 @@
 -- Laws of ramps, repeated bytes and digests: a turn of each loop, and its end. Assumes nothing.
 use mathlib.Core.Path.{_≡_, refl, ap, _∙_, sym}
 use mathlib.Core.Bool.{Bool, true, false, _&&_, not}
-use mathlib.Core.List.{List, [], _∷_, _++_, append-nil}
+use mathlib.Core.List.{List, [], append-nil}
 use Prim.Native.Nat.{ℕ, zero, suc, _+_, _-_, _%_, _^_, _≤_, _<_}
 use native.Mathlib.Omega.{arith}
 use native.Mathlib.Nat.{add-zero, sub-zero, add-assoc}
@@ -13,7 +13,8 @@ use lib.Seq.{drop-cons, sets}
 use Rattle.laws.specs.Bytes.{put}
 use Rattle.laws.proofs.Bytes.{sets-put}
 use Rattle.laws.proofs.Split.{by-lt, and-true}
-use Rattle.vectors.specs.Vectors.{leastOf, rampOf, rampedOf, roomFor, left, againOf, repeatsOf, repeatedOf, mixOf, mixedOf}
+use Rattle.buffer.specs.Least.{leastOf}
+use Rattle.vectors.specs.Vectors.{rampOf, rampedOf, roomFor, left, againOf, repeatsOf, repeatedOf, mixOf, mixedOf}
 
 pub ramp-turn : (m : List ℕ) (at i n b b′ step : ℕ) → i < n → b′ ≡ (b + step) % 2 ^ 8 → sets m (at + i) (rampOf (n - i) b step) ≡ sets (set m (at + i) b) (at + (i + 1)) (rampOf (n - (i + 1)) b′ step)
 unfolding rampOf

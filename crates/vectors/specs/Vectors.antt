@@ -1,35 +1,11 @@
--- What the programs that play vectors make of numbers and buffers: no rule of the paper. Assumes nothing.
+-- What the programs that play vectors make of buffers: no rule of the paper. Assumes nothing.
 use mathlib.Core.Bool.{Bool, cond, _&&_}
 use mathlib.Core.List.{List, [], _∷_}
 use Prim.Native.Nat.{ℕ, zero, suc, _+_, _-_, _*_, _%_}
-use lib.Dec.{eqb, leb, ltb}
+use lib.Dec.{leb, ltb}
 use lib.ListN.{length, getD, set}
 use Rattle.laws.specs.Bytes.{put}
-use Rattle.refusal.specs.declared.Done.{Done}
-use Rattle.refusal.specs.declared.Done.the-variants.{Bytes, Refused}
-use Rattle.refusal.specs.Refusal.{numberOf, lineNamed}
-use Rattle.vectors.specs.declared.Numbers.{Numbers}
-
--- two bytes as a number, low byte first
-abbrev pub pairOf : List ℕ → ℕ → ℕ
-pairOf bs at = getD bs at 0 + getD bs (at + 1) 0 * 0x100
-
--- four bytes, likewise
-abbrev pub quadOf : List ℕ → ℕ → ℕ
-quadOf bs at = getD bs at 0 + getD bs (at + 1) 0 * 0x100 + getD bs (at + 2) 0 * 0x1_0000 + getD bs (at + 3) 0 * 0x100_0000
-
--- how much of a buffer is lent: its right length, a byte less, a byte more, or nothing
-abbrev pub lentOf : ℕ → ℕ → ℕ
-lentOf code right = cond (eqb code 0) right (cond (eqb code 1) (right - 1) (cond (eqb code 2) (right + 1) 0))
-
--- an answer in numbers: the refusal and the line that it names, or 0, and the bytes put out
-abbrev pub toldOf : Done → Numbers
-toldOf (Bytes n) = record { number = 0; line = 0; count = n }
-toldOf (Refused r) = record { number = numberOf r; line = lineNamed r; count = 0 }
-
--- the smaller of two
-abbrev pub leastOf : ℕ → ℕ → ℕ
-leastOf a b = cond (ltb a b) a b
+use Rattle.buffer.specs.Least.{leastOf}
 
 -- so many bytes, each by the step more than the one before, modulo 256
 unfoldable pub rampOf : ℕ → ℕ → ℕ → List ℕ
@@ -45,12 +21,12 @@ unfoldable pub roomFor : ℕ → ℕ → ℕ → Bool
 roomFor size at count = leb (at + count) size
 
 -- what a call leaves: the place behind its bytes, and the buffer
-pub record Laid : Type 0 where
+pub record Repeated : Type 0 where
   pub place : ℕ
   pub out : List ℕ
 
 -- the two in one
-abbrev pub left : ℕ → List ℕ → Laid
+abbrev pub left : ℕ → List ℕ → Repeated
 left place out = record { place = place; out = out }
 
 -- n bytes from the i-th behind place `at` on become, one by one, those of the period at place `from`, over and over
@@ -63,7 +39,7 @@ unfoldable pub repeatsOf : ℕ → ℕ → ℕ → ℕ → ℕ → Bool
 repeatsOf size from period at count = ltb 0 period && (roomFor size from period && roomFor size at count)
 
 -- so many bytes of it, or nothing at all
-unfoldable pub repeatedOf : ℕ → ℕ → ℕ → ℕ → List ℕ → Laid
+unfoldable pub repeatedOf : ℕ → ℕ → ℕ → ℕ → List ℕ → Repeated
 repeatedOf from period at count m = cond (repeatsOf (length m) from period at count) (left (at + count) (againOf count 0 from period at m)) (left at m)
 
 -- a digest with one more number in it

@@ -1,31 +1,15 @@
--- What each word for people is, and what writing it leaves. Names by document 01, "The board" and "Events". Assumes nothing.
+-- What each word for people is. Names by document 01, "The board" and "Events". Assumes nothing.
 use mathlib.Core.Bool.{cond}
-use mathlib.Core.List.{List, [], _∷_, _++_}
-use Prim.Native.Nat.{ℕ, _+_, _-_, _/_, _%_}
+use mathlib.Core.List.{List}
+use Prim.Native.Nat.{ℕ}
 use lib.Dec.{eqb}
-use lib.ListN.{length, take}
 use Rattle.laws.specs.Ascii.{ascii}
-use Rattle.laws.specs.Bytes.{put}
 use Rattle.request.specs.declared.Request.{Request}
 use Rattle.request.specs.declared.Request.the-variants as request
 use Rattle.mode.specs.declared.Mode.{Mode}
 use Rattle.mode.specs.declared.Mode.the-variants as mode
 use Rattle.mode.specs.Wire.{errTARGET, errWRITE, errVENDOR, errSTALLEDPKT}
-use Rattle.hex.specs.Hex.{hexOf}
 use Rattle.decimal.specs.Decimal.{decimalOf}
-
--- what a call leaves: the place behind its words, and the buffer
-pub record Said : Type 0 where
-  pub place : ℕ
-  pub out : List ℕ
-
--- the two in one
-abbrev pub left : ℕ → List ℕ → Said
-left place out = record { place = place; out = out }
-
--- as much of xs as there is room for goes over the bytes from place `at` on
-unfoldable pub saidOf : List ℕ → List ℕ → ℕ → Said
-saidOf xs out at = left (at + length (take (length out - at) xs)) (put at (take (length out - at) xs) out)
 
 -- the requests, by the names of the table in "Events"
 abbrev pub requestName : Request → List ℕ
@@ -57,11 +41,3 @@ statusName n =
     (cond (eqb n errWRITE) (ascii "errWRITE")
     (cond (eqb n errVENDOR) (ascii "errVENDOR")
     (cond (eqb n errSTALLEDPKT) (ascii "errSTALLEDPKT") (decimalOf n)))))
-
--- the four bytes of a 32-bit number, high byte first
-abbrev pub highFirst : ℕ → List ℕ
-highFirst x = x / 16777216 ∷ x / 65536 % 256 ∷ x / 256 % 256 ∷ x % 256 ∷ []
-
--- 0x and eight hexadecimal digits
-abbrev pub addressOf : ℕ → List ℕ
-addressOf x = ascii "0x" ++ hexOf (highFirst x)

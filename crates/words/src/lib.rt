@@ -1,36 +1,17 @@
-// Words for people: names, numbers and addresses, written into a lent buffer one behind the other.
+// Words for people: the names of requests, modes and statuses, said into a lent buffer.
 //
-// Each function gives the place behind what it wrote. What finds no room is left out, so that no
-// caller has to reckon how long a line becomes.
+// Each function gives the place behind what it wrote. What finds no room is left out.
 ghost use mathlib.Core.Path.{_≡_};
 ghost use mathlib.Core.Bool.{cond};
 ghost use Prim.Native.Nat.{_≤_};
 ghost use lib.Dec.{eqb};
 ghost use Rattle.decimal.specs.Decimal.{decimalOf};
 ghost use Rattle.words.specs.Names.{namesLength, namesFrom};
-ghost use Rattle.words.specs.Words.{left, saidOf, requestName, modeName, statusName, highFirst, addressOf};
+ghost use Rattle.sentence.specs.Said.{left, saidOf};
+ghost use Rattle.words.specs.Words.{requestName, modeName, statusName};
 use device::Device;
 use mode::Mode;
 use request::Request;
-
-// The most digits that a number has, and a byte behind them.
-const DIGITS: usize = 21;
-
-// The bytes of `text` go over those of `out` from place `at` on, as many as there is room for.
-pub fn say(text: &[u8], out: &mut [u8], at: usize) -> usize
-    ensures { λ r. ⌜ left r (now (out .exit)) ≡ saidOf (now (text .entry)) (now (out .entry)) at ⌝ }
-{
-    if out.len() <= at {
-        return at;
-    }
-    let room = out.len() - at;
-    if room < text.len() {
-        buffer::put(out, at, &text[0..room]);
-        return out.len();
-    }
-    buffer::put(out, at, text);
-    at + text.len()
-}
 
 // Where a name stands in the text of all names. The arms that find it give numbers and no text: what the prover
 // walks grows with the arms times all that is alive in them.
@@ -48,7 +29,7 @@ fn say_part(from: usize, to: usize, out: &mut [u8], at: usize) -> usize
         dfuIDLE|dfuDNLOAD-SYNC|dfuDNBUSY|dfuDNLOAD-IDLE|dfuMANIFEST-SYNC|dfuUPLOAD-IDLE|dfuERROR|left|rebooting|\
         DNLOAD|UPLOAD|GETSTATUS|CLRSTATUS|GETSTATE|ABORT|a request that the loader does not know|\
         OK|errTARGET|errWRITE|errVENDOR|errSTALLEDPKT|";
-    say(&names[from..to], out, at)
+    sentence::say(&names[from..to], out, at)
 }
 
 // Where the request's name stands.
@@ -119,37 +100,7 @@ pub fn status(status: u8, out: &mut [u8], at: usize) -> usize
 {
     let part = status_part(status);
     if part.to == 0 {
-        return decimal(status as usize, out, at);
+        return sentence::fill(b"#", &[status as usize], b"", out, at);
     }
     say_part(part.from, part.to, out, at)
-}
-
-// The number in decimal.
-pub fn decimal(number: usize, out: &mut [u8], at: usize) -> usize
-    ensures { λ r. ⌜ left r (now (out .exit)) ≡ saidOf (decimalOf number) (now (out .entry)) at ⌝ }
-{
-    let mut digits = [0u8; DIGITS];
-    let end = decimal::write_field(number, b' ', &mut digits, 0);
-    say(&digits[0..end - 1], out, at)
-}
-
-// The four bytes of a number, high byte first.
-fn high_first(number: u32) -> [u8; 4]
-    ensures { λ r. ⌜ r ≡ highFirst number ⌝ }
-{
-    [
-        (number / 16777216) as u8,
-        (number / 65536 % 256) as u8,
-        (number / 256 % 256) as u8,
-        (number % 256) as u8,
-    ]
-}
-
-// The address in hexadecimal: eight digits behind 0x.
-pub fn address(address: u32, out: &mut [u8], at: usize) -> usize
-    ensures { λ r. ⌜ left r (now (out .exit)) ≡ saidOf (addressOf address) (now (out .entry)) at ⌝ }
-{
-    let mut digits = *b"0x00000000";
-    hex::encode(&high_first(address), &mut digits, 2);
-    say(&digits, out, at)
 }

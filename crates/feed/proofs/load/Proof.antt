@@ -7,14 +7,8 @@ use Rattle.feed.proofs.Loading.{loaded-part, loaded-none}
 use Rattle.feed.proofs.load.Statement.{statement}
 use Rattle.feed.proofs.load.Tie as tie
 
-returns : tie.Need-returns
-returns c = loaded-none _ _ _
-
 sub-if2 : tie.Need-sub-if2
 sub-if2 c = search needs
-
-returns-2 : tie.Need-returns-2
-returns-2 c = loaded-none _ _ _
 
 add-read-full : tie.Need-add-read-full
 add-read-full c = search needs
@@ -37,20 +31,24 @@ add-result c = search needs
 same-length : tie.Need-same-length
 same-length c = search needs
 
-returns-3 : tie.Need-returns-3
-returns-3 c =
+returns : tie.Need-returns
+returns c =
     let a = c .before .before .before .before .before .before .before .args in
     let r = c .before .before .read-full in
     let f : a .at + a .count ≤ length (a .buffer .now) = omega arith in
     loaded-part _ (r .last .1 .0) _ _ _ f (r .kept .1 .0) (r .ensures .0)
 
+returns-2 : tie.Need-returns-2
+returns-2 c = loaded-none _ _ _
+
+returns-3 : tie.Need-returns-3
+returns-3 c = loaded-none _ _ _
+
 pub load-spec : {M : Type 1} → statement M
 load-spec =
     tie.close
     (tie.spec
-    returns
     sub-if2
-    returns-2
     add-read-full
     sub-read-full
     part-read-full-start
@@ -58,4 +56,6 @@ load-spec =
     read-full-requires
     add-result
     same-length
+    returns
+    returns-2
     returns-3)

@@ -7,10 +7,10 @@ use Rattle.replay.proofs.replay.Statement.{statement}
 use Rattle.replay.proofs.replay.Tie as tie
 
 abbrev Inv-loop : tie.InvT-loop
-Inv-loop fd tape₀ memory₀ block₀ reply₀ scene₀ events₀ count₀ tape memory block reply scene events count = (events ≤ count) × (length tape ≡ length tape₀) × (length memory ≡ length memory₀) × (length block ≡ length block₀) × (length reply ≡ length reply₀)
+Inv-loop fd tape₀ memory₀ block₀ reply₀ lending₀ events₀ count₀ tape memory block reply lending events count = (events ≤ count) × (length tape ≡ length tape₀) × (length memory ≡ length memory₀) × (length block ≡ length block₀) × (length reply ≡ length reply₀)
 
 abbrev μ-loop : tie.MeasureT-loop
-μ-loop fd tape₀ memory₀ block₀ reply₀ scene₀ events₀ count₀ tape memory block reply scene events count = 1000000 - count
+μ-loop fd tape₀ memory₀ block₀ reply₀ lending₀ events₀ count₀ tape memory block reply lending events count = 1000000 - count
 
 empty-requires : tie.Need-empty-requires Inv-loop μ-loop
 empty-requires c κs = search needs

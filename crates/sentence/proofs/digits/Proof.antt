@@ -1,14 +1,17 @@
 -- `sentence::digits` meets its contract. Assumes nothing.
-use Rattle.sentence.proofs.Spelled.{said-digits}
+use Rattle.sentence.proofs.Said.{digits-said}
 use borrow.Author.Needs.{needs}
 use Rattle.sentence.proofs.digits.Statement.{statement}
 use Rattle.sentence.proofs.digits.Tie as tie
 
-digit-requires : tie.Need-digit-requires
-digit-requires c κs = search needs
+slice-aggregate-encode : tie.Need-slice-aggregate-encode
+slice-aggregate-encode c = search needs
 
-digit-requires-2 : tie.Need-digit-requires-2
-digit-requires-2 c κs = search needs
+slice-aggregate-encode-2 : tie.Need-slice-aggregate-encode-2
+slice-aggregate-encode-2 c = search needs
+
+encode-requires : tie.Need-encode-requires
+encode-requires c κs = search needs
 
 slice-aggregate-say : tie.Need-slice-aggregate-say
 slice-aggregate-say c = search needs
@@ -21,10 +24,17 @@ same-length c = search needs
 
 returns : tie.Need-returns
 returns c =
-    let d = c .before .before .before .before .before in
-    said-digits _ _ _ _ _ (d .before .digit .ensures) (d .digit2 .ensures) (c .before .before .say .ensures)
+    let e = c .before .before .before .before .before .before in
+    digits-said _ _ _ _ _ (e .encode .ensures) (c .before .before .say .ensures)
 
 pub digits-spec : {M : Type 1} → statement M
 digits-spec =
     tie.close
-    (tie.spec digit-requires digit-requires-2 slice-aggregate-say say-requires same-length returns)
+    (tie.spec
+    slice-aggregate-encode
+    slice-aggregate-encode-2
+    encode-requires
+    slice-aggregate-say
+    say-requires
+    same-length
+    returns)

@@ -18,7 +18,7 @@ returns : tie.Need-returns
 returns c =
     let m = c .before .before in
     let n = m .before .before .args .number in
-    rw (m .match .keys1) (c .least .ensures ∙ ap (λ (k : ℕ). cond (ltb n k) n k) (c .before .bars .ensures))
+    rw (m .match .keys1) (c .least .ensures .0 ∙ ap (λ (k : ℕ). cond (ltb n k) n k) (c .before .bars .ensures))
 
 returns-2 : tie.Need-returns-2
 returns-2 c = simp (c .match .keys2)

@@ -4,14 +4,14 @@ use Prim.Native.Nat.{_-_, _≤_}
 use native.Mathlib.Omega.{arith}
 use lib.ListN.{length, getD}
 use borrow.Author.Needs.{needs}
-use Rattle.trial.specs.Trial.{fresh, life, livesOf}
+use Rattle.trial.specs.Trial.{unplayed, life, livesOf}
 use Rattle.trial.proofs.Turns.{lives-start, lives-turn, lives-over, lives-end}
 use Rattle.trial.proofs.live.Statement.{statement}
 use Rattle.trial.proofs.live.Tie as tie
 
 abbrev Inv-loop : tie.InvT-loop
 Inv-loop packed events place memory₀ block₀ reply₀ scene₀ count₀ memory block reply scene count =
-    (livesOf packed place (events - count) count (life scene memory block reply) ≡ livesOf packed place events 0 (life (fresh (getD memory₀ place 0)) memory₀ block₀ reply₀))
+    (livesOf packed place (events - count) count (life scene memory block reply) ≡ livesOf packed place events 0 (life (unplayed (getD memory₀ place 0)) memory₀ block₀ reply₀))
     × (scene .at ≤ length packed)
     × (count ≤ events)
     × (length memory ≡ length memory₀)

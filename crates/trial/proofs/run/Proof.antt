@@ -1,5 +1,5 @@
 -- `trial::run` meets its contract. Assumes nothing.
-use Rattle.trial.proofs.Turns.{run-is}
+use Rattle.trial.proofs.Turns.{trial-is}
 use borrow.Author.Needs.{needs}
 use Rattle.trial.proofs.run.Statement.{statement}
 use Rattle.trial.proofs.run.Tie as tie
@@ -32,7 +32,7 @@ returns : tie.Need-returns
 returns c =
     let l = c .before .before .before .before .before in
     let e = l .before .before .before .before .before in
-    run-is _ _ _ _ _ _ _ _ _ _ _ (e .equip .ensures) (l .live .ensures) (c .survey .ensures)
+    trial-is _ _ _ _ _ _ _ _ _ _ _ (e .equip .ensures) (l .live .ensures) (c .survey .ensures)
 
 pub run-spec : {M : Type 1} → statement M
 run-spec =

@@ -1,5 +1,4 @@
 -- `vectors::step` meets its contract. Assumes nothing.
-use native.Mathlib.Omega.{arith}
 use borrow.Author.Needs.{needs}
 use Rattle.vectors.proofs.step.Statement.{statement}
 use Rattle.vectors.proofs.step.Tie as tie

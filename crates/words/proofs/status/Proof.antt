@@ -1,5 +1,7 @@
 -- `words::status` meets its contract. Assumes nothing.
-use Rattle.words.proofs.Said.{same-said, by-number, by-name}
+use mathlib.Core.Path.{_∙_}
+use Rattle.sentence.proofs.Said.{same-said}
+use Rattle.words.proofs.Statuses.{by-number, by-name, number-said}
 use borrow.Author.Needs.{needs}
 use Rattle.words.proofs.status.Statement.{statement}
 use Rattle.words.proofs.status.Tie as tie
@@ -7,16 +9,25 @@ use Rattle.words.proofs.status.Tie as tie
 status-part-requires : tie.Need-status-part-requires
 status-part-requires c κs = search needs
 
-decimal-requires : tie.Need-decimal-requires
-decimal-requires c κs = search needs
+slice-aggregate-fill : tie.Need-slice-aggregate-fill
+slice-aggregate-fill c = search needs
+
+slice-aggregate-fill-2 : tie.Need-slice-aggregate-fill-2
+slice-aggregate-fill-2 c = search needs
+
+slice-aggregate-fill-3 : tie.Need-slice-aggregate-fill-3
+slice-aggregate-fill-3 c = search needs
+
+fill-requires : tie.Need-fill-requires
+fill-requires c κs = search needs
 
 same-length : tie.Need-same-length
 same-length c = search needs
 
 returns : tie.Need-returns
 returns c =
-    let t = c .before .before .before .before in
-    same-said _ _ _ _ (by-number _ _ _ _ (t .if1 .taken) (t .before .before .status-part .ensures .2)) (c .before .before .decimal .ensures)
+    let t = c .before .before .before .before .before .before .before in
+    same-said _ _ _ _ (number-said _ ∙ by-number _ _ _ _ (t .if1 .taken) (t .before .before .status-part .ensures .2)) (c .before .before .fill .ensures)
 
 say-part-requires : tie.Need-say-part-requires
 say-part-requires c κs = search needs
@@ -34,7 +45,10 @@ status-spec =
     tie.close
     (tie.spec
     status-part-requires
-    decimal-requires
+    slice-aggregate-fill
+    slice-aggregate-fill-2
+    slice-aggregate-fill-3
+    fill-requires
     same-length
     returns
     say-part-requires

@@ -1,6 +1,6 @@
 -- `words::status_part` meets its contract. Assumes nothing.
 use native.Mathlib.Omega.{arith}
-use Rattle.words.proofs.Said.{status-unnamed}
+use Rattle.words.proofs.Statuses.{status-unnamed}
 use Rattle.words.proofs.status_part.Statement.{statement}
 use Rattle.words.proofs.status_part.Tie as tie
 

@@ -1,11 +1,11 @@
--- `words::decimal` meets its contract. Assumes nothing.
+-- `sentence::decimal` meets its contract. Assumes nothing.
 use native.Mathlib.Omega.{arith}
 use Prim.Native.Nat.{_^_, _<_}
 use Rattle.decimal.proofs.Decimal.{digits-at-most}
-use Rattle.words.proofs.Said.{decimal-said}
+use Rattle.sentence.proofs.Said.{decimal-said}
 use borrow.Author.Needs.{needs}
-use Rattle.words.proofs.decimal.Statement.{statement}
-use Rattle.words.proofs.decimal.Tie as tie
+use Rattle.sentence.proofs.decimal.Statement.{statement}
+use Rattle.sentence.proofs.decimal.Tie as tie
 
 slice-aggregate-write-field : tie.Need-slice-aggregate-write-field
 slice-aggregate-write-field c = search needs

@@ -1,7 +1,7 @@
--- `vectors::told` meets its contract. Assumes nothing.
+-- `numbers::told` meets its contract. Assumes nothing.
 use borrow.Author.Needs.{needs}
-use Rattle.vectors.proofs.told.Statement.{statement}
-use Rattle.vectors.proofs.told.Tie as tie
+use Rattle.numbers.proofs.told.Statement.{statement}
+use Rattle.numbers.proofs.told.Tie as tie
 
 enum-known-done : tie.Need-enum-known-done
 enum-known-done c = search needs
@@ -12,8 +12,8 @@ enum-known-done-2 c = search needs
 number-requires : tie.Need-number-requires
 number-requires c κs = search needs
 
-wide-requires : tie.Need-wide-requires
-wide-requires c κs = search needs
+cast-t6 : tie.Need-cast-t6
+cast-t6 c = search needs
 
 line-requires : tie.Need-line-requires
 line-requires c κs = search needs
@@ -22,7 +22,7 @@ returns : tie.Need-returns
 returns c = rw (c .before .done .given .1)
 
 returns-2 : tie.Need-returns-2
-returns-2 c = rw (c .before .before .before .before .done2 .given .1, c .line .ensures, c .before .wide .ensures .0, c .before .before .number .ensures)
+returns-2 c = rw (c .before .before .before .done2 .given .1, c .line .ensures, c .before .number .ensures)
 
 pub told-spec : {M : Type 1} → statement M
 told-spec =
@@ -31,7 +31,7 @@ told-spec =
     enum-known-done
     enum-known-done-2
     number-requires
-    wide-requires
+    cast-t6
     line-requires
     returns
     returns-2)

@@ -1,8 +1,8 @@
--- `words::say` meets its contract. Assumes nothing.
-use Rattle.words.proofs.Said.{said-none, said-part, said-all}
+-- `sentence::say` meets its contract. Assumes nothing.
+use Rattle.sentence.proofs.Said.{said-none, said-part, said-all}
 use borrow.Author.Needs.{needs}
-use Rattle.words.proofs.say.Statement.{statement}
-use Rattle.words.proofs.say.Tie as tie
+use Rattle.sentence.proofs.say.Statement.{statement}
+use Rattle.sentence.proofs.say.Tie as tie
 
 returns : tie.Need-returns
 returns c = said-none _ _ _ (c .if1 .taken)

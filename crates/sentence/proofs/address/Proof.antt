@@ -1,8 +1,8 @@
--- `words::address` meets its contract. Assumes nothing.
-use Rattle.words.proofs.Said.{address-said}
+-- `sentence::address` meets its contract. Assumes nothing.
+use Rattle.sentence.proofs.Said.{address-said}
 use borrow.Author.Needs.{needs}
-use Rattle.words.proofs.address.Statement.{statement}
-use Rattle.words.proofs.address.Tie as tie
+use Rattle.sentence.proofs.address.Statement.{statement}
+use Rattle.sentence.proofs.address.Tie as tie
 
 high-first-requires : tie.Need-high-first-requires
 high-first-requires c κs = search needs

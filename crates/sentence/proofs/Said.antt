@@ -1,12 +1,9 @@
 -- Laws of `saidOf`: what is left by the ways that `say` takes, by the words that are written over it, and by words behind words. Assumes nothing.
 use mathlib.Core.Path.{_≡_, refl, ap, ap₂, _∙_, sym}
-use mathlib.Core.Bool.{Bool, cond}
 use mathlib.Core.List.{List, [], _∷_, _++_, append-assoc, append-nil}
 use Prim.Native.Nat.{ℕ, _+_, _-_, _≤_, _<_}
 use native.Mathlib.Nat.{add-zero, sub-zero}
 use native.Mathlib.Omega.{arith}
-use borrow.Author.Tests.{ne-eqb}
-use lib.Dec.{eqb}
 use lib.ListN.{length, take, drop, take-append-drop, length-append}
 use lib.Seq.{take-all, length-take-le, take-append-seam, take-append-le, take-append-add}
 use Rattle.laws.specs.Bytes.{put}
@@ -15,7 +12,7 @@ use Rattle.laws.proofs.Append.{put-behind}
 use Rattle.laws.proofs.Split.{by-lt}
 use Rattle.hex.specs.Hex.{hexOf}
 use Rattle.decimal.specs.Decimal.{decimalOf}
-use Rattle.words.specs.Words.{Said, left, saidOf, statusName, highFirst, addressOf}
+use Rattle.sentence.specs.Said.{Said, left, saidOf, highFirst, addressOf}
 
 -- ys are as many of xs as there is room for
 said-as : (xs ys out o : List ℕ) (at n : ℕ) → take (length out - at) xs ≡ ys → n ≡ at + length ys → o ≡ put at ys out → left n o ≡ saidOf xs out at
@@ -101,16 +98,6 @@ said-behind xs ys out o at p s first then =
     (λ h. by-lt (length out - at) (length xs) (λ k. behind-part xs ys out at h k) (λ k. behind-all xs ys out at h k))
     (λ h. behind-none xs ys out at h)
 
--- a status that has no name, and one that has one
-pub status-unnamed : (n : ℕ) → (n ≡ 0 → ⊥) → (n ≡ 1 → ⊥) → (n ≡ 3 → ⊥) → (n ≡ 11 → ⊥) → (n ≡ 15 → ⊥) → decimalOf n ≡ statusName n
-status-unnamed n a b c d e = rw (ne-eqb _ 0 a, ne-eqb _ 1 b, ne-eqb _ 3 c, ne-eqb _ 11 d, ne-eqb _ 15 e)
-
-pub by-number : (to : ℕ) (xs ys zs : List ℕ) → to ≡ 0 → cond (eqb to 0) xs ys ≡ zs → xs ≡ zs
-by-number to xs ys zs e h = sym (ap (λ (n : ℕ). cond (eqb n 0) xs ys) e) ∙ h
-
-pub by-name : (to : ℕ) (xs ys zs : List ℕ) → (to ≡ 0 → ⊥) → cond (eqb to 0) xs ys ≡ zs → ys ≡ zs
-by-name to xs ys zs e h = sym (ap (λ (b : Bool). cond b xs ys) (ne-eqb to 0 e)) ∙ h
-
 front : (xs : List ℕ) (b : ℕ) (m : List ℕ) → take (length xs) (put 0 (xs ++ (b ∷ [])) m) ≡ xs
 unfolding put
 front xs b m = ap (take (length xs)) (append-assoc xs (b ∷ []) (drop (0 + length (xs ++ (b ∷ []))) m)) ∙ take-append-seam xs (b ∷ drop (0 + length (xs ++ (b ∷ []))) m)
@@ -126,3 +113,8 @@ decimal-said n end b ds zs out at s e is h =
 pub address-said : (x : ℕ) (bs ds out : List ℕ) (at : ℕ) (s : Said) → bs ≡ highFirst x → ds ≡ put 2 (hexOf bs) (48 ∷ 120 ∷ 48 ∷ 48 ∷ 48 ∷ 48 ∷ 48 ∷ 48 ∷ 48 ∷ 48 ∷ []) → s ≡ saidOf ds out at → s ≡ saidOf (addressOf x) out at
 unfolding put hexOf
 address-said x bs ds out at s b is h = same-said _ _ out at (is ∙ ap (λ (l : List ℕ). put 2 (hexOf l) (48 ∷ 120 ∷ 48 ∷ 48 ∷ 48 ∷ 48 ∷ 48 ∷ 48 ∷ 48 ∷ 48 ∷ [])) b) h
+
+-- a byte's two digits, from a buffer of as many
+pub digits-said : (x : ℕ) (ds out : List ℕ) (at : ℕ) (s : Said) → ds ≡ put 0 (hexOf (x ∷ [])) (48 ∷ 48 ∷ []) → s ≡ saidOf ds out at → s ≡ saidOf (hexOf (x ∷ [])) out at
+unfolding put hexOf
+digits-said x ds out at s is h = same-said _ _ out at is h

@@ -1,8 +1,8 @@
--- `vectors::least` meets its contract. Assumes nothing.
+-- `buffer::least` meets its contract. Assumes nothing.
 use borrow.Author.Tests.{lt-ltb, le-ltb}
 use native.Mathlib.Omega.{arith}
-use Rattle.vectors.proofs.least.Statement.{statement}
-use Rattle.vectors.proofs.least.Tie as tie
+use Rattle.buffer.proofs.least.Statement.{statement}
+use Rattle.buffer.proofs.least.Tie as tie
 
 returns : tie.Need-returns
 returns c = (simp (lt-ltb _ _ (c .if1 .taken)), omega arith, omega arith)
