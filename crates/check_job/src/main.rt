@@ -36,7 +36,7 @@ fn say(words: &[u8]) {
 
 // Prints the verdict's line.
 fn print(verdict: Verdict) {
-    notice::line(STDOUT_FILENO, verdict);
+    telling::line(STDOUT_FILENO, verdict);
 }
 
 // How the program goes about it: with the line alone, and with a file that it could not read.
@@ -52,7 +52,7 @@ fn refuse(manner: Manner, got: Got, argument: usize, file: &[u8]) {
     }
     print(Verdict::Refused(Refusal::File));
     if !manner.is_quiet {
-        notice::unreadable(got, argument, file);
+        telling::unreadable(got, argument, file);
     }
 }
 
@@ -82,7 +82,7 @@ fn judge(job: &[u8], image: &[u8], card: &[u8], is_quiet: bool) {
     if is_quiet {
         return;
     }
-    let gathered = evidence::gather(verdict, job, &mut work);
+    let gathered = telling::gather(verdict, job, &mut work);
     advice::explain(verdict, gathered, &work, image, card);
     say(b"\n");
 }

@@ -10,7 +10,7 @@ const ROOM: usize = 512;
 
 // The line.
 fn name(why: Refusal) {
-    notice::line(STDERR_FILENO, Verdict::Refused(why));
+    telling::line(STDERR_FILENO, Verdict::Refused(why));
 }
 
 // A sentence with three numbers in it.
@@ -34,7 +34,7 @@ pub(crate) fn arguments() {
 // A file that is not readable.
 pub(crate) fn unreadable(got: Got, argument: usize, file: &[u8]) {
     name(Refusal::File);
-    notice::unreadable(got, argument, file);
+    telling::unreadable(got, argument, file);
 }
 
 fn image(size: usize) {

@@ -10,7 +10,7 @@ const ROOM: usize = 512;
 
 // The line.
 fn name(why: Refusal) {
-    notice::line(STDOUT_FILENO, Verdict::Refused(why));
+    telling::line(STDOUT_FILENO, Verdict::Refused(why));
 }
 
 // The line and a sentence, in which the line of the job has a gap that picks and one that names it.
@@ -25,5 +25,5 @@ pub(crate) fn say(why: Refusal, template: &[u8]) {
 // A file that is not readable.
 pub(crate) fn unreadable(got: Got, argument: usize, file: &[u8]) {
     name(Refusal::File);
-    notice::unreadable(got, argument, file);
+    telling::unreadable(got, argument, file);
 }

@@ -8,7 +8,7 @@ use Rattle.refusal.specs.declared.Done.the-variants.{Bytes}
 use Rattle.refusal.specs.Delivery.{delivery}
 use Rattle.job.specs.Calls.{readOf}
 use Rattle.verdict.specs.declared.Verdict.{Verdict}
-use Rattle.evidence.specs.Evidence.{toldAtOnce, gatheredOf}
+use Rattle.telling.specs.Gathered.{toldAtOnce, gatheredOf}
 
 module _ (v : Verdict) (job room : List ℕ) (told : Bool) (is : told ≡ toldAtOnce v) where
   -- a verdict that is told at once leaves the room alone

@@ -1,7 +1,7 @@
--- `evidence::told_at_once` meets its contract. Assumes nothing.
+-- `telling::told_at_once` meets its contract. Assumes nothing.
 use borrow.Author.Needs.{needs}
-use Rattle.evidence.proofs.told_at_once.Statement.{statement}
-use Rattle.evidence.proofs.told_at_once.Tie as tie
+use Rattle.telling.proofs.told_at_once.Statement.{statement}
+use Rattle.telling.proofs.told_at_once.Tie as tie
 
 enum-told : tie.Need-enum-told
 enum-told c = search needs

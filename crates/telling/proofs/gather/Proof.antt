@@ -1,8 +1,8 @@
--- `evidence::gather` meets its contract. Assumes nothing.
-use Rattle.evidence.proofs.Gathering.{gathers-nothing, gathers-events}
+-- `telling::gather` meets its contract. Assumes nothing.
+use Rattle.telling.proofs.Gathering.{gathers-nothing, gathers-events}
 use borrow.Author.Needs.{needs}
-use Rattle.evidence.proofs.gather.Statement.{statement}
-use Rattle.evidence.proofs.gather.Tie as tie
+use Rattle.telling.proofs.gather.Statement.{statement}
+use Rattle.telling.proofs.gather.Tie as tie
 
 told-at-once-requires : tie.Need-told-at-once-requires
 told-at-once-requires c κs = search needs
