@@ -11,8 +11,9 @@ use Rattle.board.specs.Layout.{memoryBytes}
 use Rattle.request.specs.Request.{transferBytes}
 use Rattle.flash.specs.Flash.{each, blank, stored}
 use Rattle.memory.specs.Whole.{unprotected}
-use Rattle.verdict.specs.Checked.{workBytes}
-use Rattle.cells.specs.Cells.{blockFrom, blockOf, marked, learnt, surely, worked, writes}
+use Rattle.marks.specs.Area.{workBytes}
+use Rattle.marks.specs.Marks.{blockFrom, marked}
+use Rattle.cells.specs.Cells.{blockOf, learnt, surely, worked, writes}
 
 -- the erased test on every board, by its two halves
 module _ (n word at count : ℕ) (w : List ℕ) where

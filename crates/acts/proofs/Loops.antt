@@ -14,7 +14,8 @@ use Rattle.board.specs.Layout.{pageBytes}
 use Rattle.protection.specs.Protection.{writeProtected}
 use Rattle.flash.specs.Flash.{kept, each, stored}
 use Rattle.flash.proofs.Flash.{stored-open, stored-kept, stored-end}
-use Rattle.cells.specs.Cells.{marked, learnt, blockFrom, blockOf, pageErased, pagesErased}
+use Rattle.marks.specs.Marks.{marked, blockFrom}
+use Rattle.cells.specs.Cells.{learnt, blockOf, pageErased, pagesErased}
 
 -- the place behind a mark, which stands o places behind its byte
 pub next-mark : (v word o i count : ℕ) (w : List ℕ) → each v word (i + 1) count (drop (o + (i + 1)) w) ≡ each v word (i + 1) count (drop (o + i + 1) w)

@@ -18,8 +18,9 @@ use Rattle.protection.specs.Protection.{writeProtected, anyProtected}
 use Rattle.protection.proofs.Protection.{none-parts, none-at}
 use Rattle.request.specs.Request.{transferBytes}
 use Rattle.flash.specs.Flash.{kept, each, blank, laid, stored}
-use Rattle.verdict.specs.Checked.{workBytes}
-use Rattle.cells.specs.Cells.{blockOf, marked, learnt, pageErased, pagesErased}
+use Rattle.marks.specs.Area.{workBytes}
+use Rattle.marks.specs.Marks.{marked}
+use Rattle.cells.specs.Cells.{blockOf, learnt, pageErased, pagesErased}
 use Rattle.laws.specs.Lists.{allAre}
 use Rattle.acts.proofs.Learning.{block-has}
 

@@ -11,7 +11,7 @@ ghost use Rattle.request.specs.Request.{transferBytes};
 ghost use Rattle.loader.specs.Inner.{endOf, countOf};
 ghost use Rattle.flash.specs.Flash.{each, stored};
 ghost use Rattle.memory.specs.Whole.{unprotected};
-ghost use Rattle.verdict.specs.Checked.{workBytes};
+ghost use Rattle.marks.specs.Area.{workBytes};
 ghost use Rattle.cells.specs.Cells.{learnt, blockOf, pageErased, pagesErased, worked, workedOf, writes};
 use action::Action;
 use board::Board;

@@ -24,7 +24,8 @@ use Rattle.command.specs.Command.{commandOf}
 use Rattle.decision.specs.Decide.{decideOf}
 use Rattle.hex.specs.Hex.{bytesOf}
 use Rattle.hex.proofs.Fields.{bytes-length}
-use Rattle.cells.specs.Cells.{marked, learnt, Worked, worked, workedOf, reports, statusMoves, readMoves, readsMoves, decisionMoves, requestMoves, begun}
+use Rattle.marks.specs.Marks.{marked}
+use Rattle.cells.specs.Cells.{learnt, Worked, worked, workedOf, reports, statusMoves, readMoves, readsMoves, decisionMoves, requestMoves, begun}
 
 pub status-rests : (n : ℕ) (d : Device) (w : List ℕ) → (wireOf (d .mode) ≡ 3 → ⊥) → reports d (nothingRan d) w ≡ statusMoves n d w
 unfolding statusMoves

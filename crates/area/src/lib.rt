@@ -11,7 +11,7 @@ ghost use Rattle.command.specs.Command.{commandOf};
 ghost use Rattle.decision.specs.Decide.{decideOf, isStatus};
 ghost use Rattle.hex.specs.Hex.{allDigits, bytesOf};
 ghost use Rattle.area.specs.Moved.{movedAs};
-ghost use Rattle.verdict.specs.Checked.{workBytes};
+ghost use Rattle.marks.specs.Area.{workBytes};
 ghost use Rattle.cells.specs.Cells.{reports, statusMoves, readsMoves, requestMoves, begun};
 use access::Access;
 use board::Board;

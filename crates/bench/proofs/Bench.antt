@@ -9,7 +9,7 @@ use Rattle.board.specs.Layout.{loggerPages, optionBytes}
 use Rattle.laws.specs.Lists.{allBytes}
 use Rattle.verdict.specs.declared.Verdict.the-variants.{End}
 use Rattle.verdict.specs.Verdict.{endFails, Judged}
-use Rattle.verdict.specs.Checked.{workBytes}
+use Rattle.marks.specs.Area.{workBytes}
 use Rattle.cells.specs.Cells.{overOf, lowestFrom, endNumber, endVerdict, verdictOf}
 use Rattle.cells.proofs.Judgement.{judged}
 use Rattle.bench.specs.Case.{found, foundIn, expectedIn}

@@ -25,7 +25,7 @@ use Rattle.refusal.specs.Order.{firstOf}
 use Rattle.line.specs.Event.{Event}
 use Rattle.verdict.specs.declared.Verdict.{Verdict}
 use Rattle.verdict.specs.Verdict.{endFails}
-use Rattle.verdict.specs.Checked.{workBytes}
+use Rattle.marks.specs.Area.{workBytes}
 use Rattle.cells.specs.Cells.{overOf, lowestFrom, endNumber, endVerdict, verdictOf}
 
 -- compute the address of a block, by wValue, wLength and pointer; make requests of a board with this memory; check a job, for an image and a card

@@ -19,8 +19,9 @@ use Rattle.device.specs.State.{started}
 use Rattle.laws.specs.Lists.{allBytes}
 use Rattle.laws.proofs.Lists.{bytes-append}
 use Rattle.verdict.specs.World.{World, Fresh}
-use Rattle.verdict.specs.Checked.{workBytes}
-use Rattle.cells.specs.Cells.{known, marked, learnt, begun}
+use Rattle.marks.specs.Area.{workBytes}
+use Rattle.marks.specs.Marks.{marked}
+use Rattle.cells.specs.Cells.{known, learnt, begun}
 use Rattle.cells.proofs.Learnt.{learnt-length, learnt-known, learnt-value, learnt-known-outside}
 use Rattle.cells.proofs.Likeness.{Alike}
 use Rattle.cells.proofs.Events.{Stands}

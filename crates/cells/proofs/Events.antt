@@ -44,7 +44,8 @@ use Rattle.loader.specs.Step.{sizesOf, stepOf}
 use Rattle.loader.proofs.Admitted.{step-attaches, step-serves, admit-all, in-order-admitted}
 use Rattle.line.specs.Event.{Event, attach, request}
 use Rattle.verdict.specs.World.{World, worldOf, steppedOf, fails, asksStatus}
-use Rattle.cells.specs.Cells.{known, blockFrom, blockOf, falls, goes, readMoves, readsMoves, statusMoves, decisionMoves, requestMoves, moves}
+use Rattle.marks.specs.Marks.{blockFrom}
+use Rattle.cells.specs.Cells.{known, blockOf, falls, goes, readMoves, readsMoves, statusMoves, decisionMoves, requestMoves, moves}
 use Rattle.cells.proofs.Likeness.{Alike}
 use Rattle.cells.proofs.Learnt.{put-outside}
 use Rattle.cells.proofs.Actions.{protection-same}

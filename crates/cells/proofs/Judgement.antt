@@ -19,7 +19,7 @@ use Rattle.line.specs.Event.{Event}
 use Rattle.verdict.specs.declared.Verdict.the-variants as verdict
 use Rattle.verdict.specs.World.{World, Fresh, after, failsAt}
 use Rattle.verdict.specs.Verdict.{endFails, endFault, pagesEnd, wantedAt, wrongAt, OnSome, OnNone, RunsClean, EndsWell, Judged}
-use Rattle.verdict.specs.Checked.{workBytes}
+use Rattle.marks.specs.Area.{workBytes}
 use Rattle.cells.specs.Cells.{known, begun, Over, fell, ended, overOf, suspect, lowestFrom, flashVerdict, endNumber, endVerdict, verdictOf}
 use Rattle.cells.proofs.Likeness.{cellOf}
 use Rattle.cells.proofs.Events.{Stands}

@@ -11,8 +11,9 @@ use Rattle.laws.specs.Bytes.{put, filled}
 use Rattle.laws.proofs.Bytes.{put-length}
 use Rattle.laws.proofs.Places.{put-before, put-in, put-after}
 use Rattle.board.specs.Layout.{memoryBytes}
-use Rattle.verdict.specs.Checked.{workBytes}
-use Rattle.cells.specs.Cells.{known, marked, learnt}
+use Rattle.marks.specs.Area.{workBytes}
+use Rattle.marks.specs.Marks.{marked}
+use Rattle.cells.specs.Cells.{known, learnt}
 
 -- outside the places from `from` on
 abbrev pub Outside : ℕ → ℕ → ℕ → Type 0

@@ -11,7 +11,7 @@ use Rattle.laws.proofs.Bytes.{put-length}
 use Rattle.laws.proofs.Places.{put-in}
 use Rattle.laws.proofs.Split.{by-lt}
 use Rattle.board.specs.Layout.{optionsFrom, memoryBytes}
-use Rattle.verdict.specs.Checked.{workBytes}
+use Rattle.marks.specs.Area.{workBytes}
 use Rattle.cells.specs.Cells.{known, learnt}
 use Rattle.cells.proofs.Learnt.{Outside, put-outside, learnt-length, learnt-known, learnt-value, learnt-known-outside, learnt-value-outside}
 

@@ -18,7 +18,8 @@ use Rattle.flash.specs.Flash.{blank}
 use Rattle.loader.specs.Inner.{countOf}
 use Rattle.loader.specs.Perform.{performedOf}
 use Rattle.loader.proofs.Bounds.{Fits}
-use Rattle.cells.specs.Cells.{learnt, blockFrom, surely, blockOf, writes, workedOf}
+use Rattle.marks.specs.Marks.{blockFrom}
+use Rattle.cells.specs.Cells.{learnt, surely, blockOf, writes, workedOf}
 use Rattle.cells.proofs.Likeness.{Alike, learnt-alike}
 use Rattle.cells.proofs.Actions.{page-alike, all-alike, ram-alike, whole-alike, stored-alike, surely-known, surely-blank, surely-not, word-same}
 

@@ -6,7 +6,7 @@ use mathlib.Core.List.{List, [], _∷_}
 use Prim.Native.Nat.{ℕ, zero, suc, _+_, _*_}
 use lib.Dec.{eqb, ltb}
 use lib.ListN.{length, take, drop, getD, replicate}
-use Rattle.laws.specs.Bytes.{put, filled}
+use Rattle.laws.specs.Bytes.{put}
 use Rattle.board.specs.Layout.{pageBytes, flashBytes, ramFrom, ramBytes, optionsFrom, optionBytes, memoryBytes}
 use Rattle.protection.specs.Protection.{readProtected, wordOf, writeProtected}
 use Rattle.request.specs.declared.Setup.{Setup}
@@ -30,21 +30,14 @@ use Rattle.flash.specs.Flash.{each, blank, stored}
 use Rattle.memory.specs.Whole.{unprotected}
 use Rattle.laws.specs.Lists.{same}
 use Rattle.line.specs.Event.{Event, attach, request}
+use Rattle.marks.specs.Marks.{blockFrom, marked}
 use Rattle.verdict.specs.declared.Verdict.{Verdict}
 use Rattle.verdict.specs.declared.Verdict.the-variants as verdict
 use Rattle.verdict.specs.Verdict.{endFails, pagesEnd}
 
--- the work area holds values, then marks, then the block
-abbrev pub blockFrom : ℕ → ℕ
-blockFrom n = memoryBytes n + memoryBytes n
-
 -- byte i is known
 abbrev pub known : ℕ → List ℕ → ℕ → Bool
 known n w i = eqb (getD w (memoryBytes n + i) 0) 1
-
--- the marks of `count` bytes from place `from` on: 1 where they are known, else 0
-unfoldable pub marked : ℕ → ℕ → ℕ → ℕ → List ℕ → List ℕ
-marked n from count mark w = filled (memoryBytes n + from) count mark w
 
 -- the values xs from place `from` on, known
 unfoldable pub learnt : ℕ → ℕ → List ℕ → List ℕ → List ℕ

@@ -12,7 +12,7 @@ use Rattle.board.specs.Layout.{flashBytes, memoryBytes}
 use Rattle.laws.specs.Lists.{same}
 use Rattle.laws.proofs.Lists.{same-eq}
 use Rattle.verdict.specs.Verdict.{pagesEnd}
-use Rattle.verdict.specs.Checked.{workBytes}
+use Rattle.marks.specs.Area.{workBytes}
 use Rattle.cells.specs.Cells.{suspect, lowestFrom}
 use Rattle.laws.specs.Lists.{allAre}
 use Rattle.buffer.proofs.Alike.{are-at}

@@ -8,7 +8,7 @@ use lib.ListN.{drop}
 use Rattle.laws.specs.Bytes.{filled}
 use Rattle.board.specs.Layout.{memoryBytes}
 use Rattle.laws.specs.Lists.{allAre}
-use Rattle.cells.specs.Cells.{marked}
+use Rattle.marks.specs.Marks.{marked}
 
 pub mark-is : (n from to known marks : ℕ) (w w′ : List ℕ) → marks ≡ memoryBytes n → w′ ≡ filled (marks + from) (marks + to - (marks + from)) known w → w′ ≡ marked n from (to - from) known w
 unfolding marked

@@ -5,8 +5,8 @@ ghost use Prim.Native.Nat.{_+_, _-_, _≤_, _<_};
 ghost use lib.ListN.{length, drop, getD};
 ghost use Rattle.laws.specs.Lists.{allAre};
 ghost use Rattle.board.specs.Layout.{memoryBytes};
-ghost use Rattle.verdict.specs.Checked.{workBytes};
-ghost use Rattle.cells.specs.Cells.{blockFrom, marked};
+ghost use Rattle.marks.specs.Area.{workBytes};
+ghost use Rattle.marks.specs.Marks.{blockFrom, marked};
 use board::Board;
 use request::Setup;
 

@@ -20,7 +20,7 @@ use Rattle.laws.specs.Lists.{allBytes}
 use Rattle.laws.proofs.Lists.{same-refl}
 use Rattle.verdict.specs.declared.Verdict.the-variants as verdict
 use Rattle.verdict.specs.Verdict.{endFails, pagesEnd}
-use Rattle.verdict.specs.Checked.{workBytes}
+use Rattle.marks.specs.Area.{workBytes}
 use Rattle.cells.specs.Cells.{begun, Over, ended, overOf, suspect, lowestFrom, endNumber, endVerdict, overVerdict, verdictOf}
 use Rattle.cells.proofs.Lowest.{lowest-none}
 use Rattle.plan.specs.Plan.{pageAddress, padded, pageOf, getStatus, download, leaving, pagesFrom, planEvents, barred}

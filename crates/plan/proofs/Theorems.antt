@@ -13,7 +13,8 @@ use Rattle.text.proofs.EventText.{text-events}
 use Rattle.verdict.specs.declared.Verdict.{Verdict}
 use Rattle.verdict.specs.declared.Verdict.the-variants as verdict
 use Rattle.verdict.specs.Verdict.{Judged}
-use Rattle.verdict.specs.Checked.{workBytes, Checked}
+use Rattle.marks.specs.Area.{workBytes}
+use Rattle.verdict.specs.Checked.{Checked}
 use Rattle.verdict.specs.Report.{inFields}
 use Rattle.verdict.proofs.Theorems.{one-verdict, checked-verdict}
 use Rattle.cells.proofs.Judgement.{judged}

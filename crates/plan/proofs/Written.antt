@@ -20,8 +20,9 @@ use Rattle.protection.specs.Protection.{writeProtected}
 use Rattle.request.specs.Request.{transferBytes}
 use Rattle.flash.specs.Flash.{kept, each, blank, stored}
 use Rattle.flash.proofs.Places.{stored-length, stored-outside, stored-puts, each-if}
-use Rattle.verdict.specs.Checked.{workBytes}
-use Rattle.cells.specs.Cells.{blockFrom, known, learnt, surely, pageErased, blockOf}
+use Rattle.marks.specs.Area.{workBytes}
+use Rattle.marks.specs.Marks.{blockFrom}
+use Rattle.cells.specs.Cells.{known, learnt, surely, pageErased, blockOf}
 use Rattle.cells.proofs.Learnt.{Outside, learnt-length, learnt-known, learnt-value, learnt-known-outside, learnt-value-outside}
 
 -- `count` places from `from` on are known with their values, and all others are as they were

@@ -2,7 +2,7 @@
 use mathlib.Core.Path.{_≡_}
 use mathlib.Core.Bool.{Bool, not}
 use mathlib.Core.List.{List, _∷_, _++_}
-use Prim.Native.Nat.{ℕ, _+_}
+use Prim.Native.Nat.{ℕ}
 use lib.Dec.{eqb}
 use lib.ListN.{length}
 use Rattle.refusal.specs.declared.Refusal.{Refusal}
@@ -10,19 +10,14 @@ use Rattle.refusal.specs.declared.Refusal.the-variants.{Work}
 use Rattle.refusal.specs.declared.Admission.{Admission}
 use Rattle.refusal.specs.declared.Admission.the-variants as admission
 use Rattle.refusal.specs.Order.{firstOf}
-use Rattle.board.specs.Layout.{memoryBytes}
 use Rattle.board.specs.Supply.{supplyRefusals}
-use Rattle.request.specs.Request.{transferBytes}
+use Rattle.marks.specs.Area.{workBytes}
 use Rattle.text.specs.Text.{eventsOf}
 use Rattle.job.specs.Calls.{textRefusals}
 use Rattle.verdict.specs.declared.Verdict.{Verdict}
 use Rattle.verdict.specs.declared.Verdict.the-variants as verdict
 use Rattle.verdict.specs.Verdict.{Judged}
 use Rattle.verdict.specs.Report.{Fields, inFields}
-
--- row 6: the work area has room for memory twice and for a block
-abbrev pub workBytes : ℕ → ℕ
-workBytes n = memoryBytes n + memoryBytes n + transferBytes
 
 -- rows 6 to 10, for the text t and the lengths of image, card and work area
 abbrev pub checkRefusals : ℕ → List ℕ → ℕ → ℕ → ℕ → List (Refusal × Bool)

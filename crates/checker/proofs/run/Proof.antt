@@ -9,7 +9,7 @@ use Rattle.states.specs.WellFormed.{wellFormed}
 use Rattle.states.proofs.Form.{well-formed}
 use Rattle.loader.proofs.Form.{started-form}
 use Rattle.text.specs.Text.{eventsOf}
-use Rattle.verdict.specs.Checked.{workBytes}
+use Rattle.marks.specs.Area.{workBytes}
 use Rattle.cells.specs.Cells.{overOf}
 use Rattle.checker.specs.Walk.{Ahead}
 use Rattle.checker.proofs.Advancing.{run-fell, run-on, run-over}
