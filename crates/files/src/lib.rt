@@ -8,7 +8,7 @@ ghost use mathlib.Core.Path.{_≡_};
 ghost use mathlib.Core.Bool.{true, false, cond};
 ghost use Prim.Native.Nat.{_+_, _≤_};
 ghost use lib.ListN.{length};
-ghost use Rattle.sentence.specs.Said.{left, saidOf};
+ghost use Rattle.append.specs.Said.{left, saidOf};
 ghost use Rattle.files.specs.Came.{Came};
 ghost use Rattle.files.specs.Unreadable.{causeOf, unreadableOf};
 

@@ -119,7 +119,7 @@ pub(crate) fn request(number: usize, pointer: u32, asked: Asked, out: &mut [u8])
     let command = aim.download;
     let from = access::block_address(setup.value, setup.length, pointer) as usize;
     let end = words::request(setup.request(), &mut name, 0);
-    sentence::say(b"|", &mut name, end);
+    append::say(b"|", &mut name, end);
     sentence::fill(
         b"#. [attach|$][||, block #, length #][|, leave|, no command|, mass erase|, read unprotect|, set pointer @|, erase page of @|, write to @][|, list commands||, read from @]",
         &[
@@ -145,9 +145,9 @@ pub(crate) fn request(number: usize, pointer: u32, asked: Asked, out: &mut [u8])
 fn names(device: Device, out: &mut [u8]) {
     let mode = device.mode;
     let end = words::mode(mode, out, 0);
-    let end = sentence::say(b"|", out, end);
+    let end = append::say(b"|", out, end);
     let end = words::status(device.status, out, end);
-    sentence::say(b"|", out, end);
+    append::say(b"|", out, end);
 }
 
 // What became of an event.

@@ -22,7 +22,7 @@ fn print(number: usize, pointer: u32, asked: Asked, stepped: Stepped, old: &[u8]
     let end = event::request(number, pointer, asked, &mut line);
     let end = event::outcome(stepped, &mut line, end);
     let end = change::list(old, new, change::INLINE, &mut line, end);
-    let end = sentence::say(b"\n", &mut line, end);
+    let end = append::say(b"\n", &mut line, end);
     files::write(STDOUT_FILENO, &line, end);
 }
 

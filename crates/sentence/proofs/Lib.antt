@@ -1,4 +1,4 @@
-pub mod Said
+pub mod Numbers
 pub mod Texts
 pub mod Parts
 pub mod Spelled

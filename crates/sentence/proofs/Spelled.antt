@@ -5,7 +5,7 @@ use Prim.Native.Nat.{ℕ, _%_}
 use borrow.Author.Tests.{ne-eqb}
 use Rattle.hex.specs.Hex.{hexOf}
 use Rattle.decimal.specs.Decimal.{decimalOf}
-use Rattle.sentence.specs.Said.{addressOf}
+use Rattle.sentence.specs.Address.{addressOf}
 use Rattle.sentence.specs.Sentence.{number, address, byte, text, opens, bar, closes, spelledOf}
 
 pub spelled-number : {b : ℕ} (n : ℕ) (t : List ℕ) → b ≡ number → spelledOf b n t ≡ decimalOf n

@@ -9,8 +9,8 @@ use lib.Dec.{eqb}
 use lib.ListN.{length, take, drop, getD, drop-of-length-le}
 use lib.Seq.{drop-cons, drop-drop, getD-drop}
 use Rattle.laws.proofs.Bytes.{rest-is}
-use Rattle.sentence.specs.Said.{left, saidOf}
-use Rattle.sentence.proofs.Said.{said-behind, said-nothing}
+use Rattle.append.specs.Said.{left, saidOf}
+use Rattle.append.proofs.Said.{said-behind, said-nothing}
 use Rattle.sentence.specs.Sentence.{firstText, spelledOf, takesOf, leftTexts, partOf, pickedOf, filledOf}
 
 pub fill-end : (t ns ts out : List ℕ) (i part picked at : ℕ) → length t ≤ i → left at out ≡ saidOf (filledOf (drop i t) part picked ns ts) out at

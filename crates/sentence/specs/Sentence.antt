@@ -6,7 +6,7 @@ use lib.Dec.{eqb, ltb}
 use lib.ListN.{drop, getD}
 use Rattle.hex.specs.Hex.{hexOf}
 use Rattle.decimal.specs.Decimal.{decimalOf}
-use Rattle.sentence.specs.Said.{addressOf}
+use Rattle.sentence.specs.Address.{addressOf}
 
 -- "#": a number in decimal
 abbrev pub number : ℕ

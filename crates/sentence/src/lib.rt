@@ -3,9 +3,6 @@
 // In a template # stands for a number in decimal, @ for one as an address, % for one as a byte in two digits, $ for a
 // text, and [a|b|c] for the part that a number picks, counted from 0, or for the last where there are not so many. Each
 // of them takes the next number or text, also in a part that is not picked. All else stands for itself.
-//
-// Words go into a lent buffer one behind the other, and each call gives the place behind them. What finds no room is
-// left out, so that no caller has to reckon how long a line becomes.
 ghost use mathlib.Core.Path.{_≡_};
 ghost use mathlib.Core.Bool.{cond};
 ghost use mathlib.Core.List.{[], _∷_};
@@ -14,7 +11,8 @@ ghost use lib.Dec.{eqb};
 ghost use lib.ListN.{length, drop, getD};
 ghost use Rattle.hex.specs.Hex.{hexOf};
 ghost use Rattle.decimal.specs.Decimal.{decimalOf};
-ghost use Rattle.sentence.specs.Said.{left, saidOf, highFirst, addressOf};
+ghost use Rattle.sentence.specs.Address.{highFirst, addressOf};
+ghost use Rattle.append.specs.Said.{left, saidOf};
 ghost use Rattle.sentence.specs.Sentence.{firstText, spelledOf, takesOf, leftTexts, partOf, barsOf, pickedOf, sentenceOf};
 
 // How many bytes and how many addresses there are.
@@ -25,29 +23,13 @@ const ADDRESSES: usize = 0x1_0000_0000;
 // The most digits that a number has, and a byte behind them.
 const DIGITS: usize = 21;
 
-// The bytes of `text` go over those of `out` from place `at` on, as many as there is room for.
-pub fn say(text: &[u8], out: &mut [u8], at: usize) -> usize
-    ensures { λ r. ⌜ left r (now (out .exit)) ≡ saidOf (now (text .entry)) (now (out .entry)) at ⌝ }
-{
-    if out.len() <= at {
-        return at;
-    }
-    let room = out.len() - at;
-    if room < text.len() {
-        buffer::put(out, at, &text[0..room]);
-        return out.len();
-    }
-    buffer::put(out, at, text);
-    at + text.len()
-}
-
 // The number in decimal.
 fn decimal(number: usize, out: &mut [u8], at: usize) -> usize
     ensures { λ r. ⌜ left r (now (out .exit)) ≡ saidOf (decimalOf number) (now (out .entry)) at ⌝ }
 {
     let mut digits = [0u8; DIGITS];
     let end = decimal::write_field(number, b' ', &mut digits, 0);
-    say(&digits[0..end - 1], out, at)
+    append::say(&digits[0..end - 1], out, at)
 }
 
 // The four bytes of a number, high byte first.
@@ -68,7 +50,7 @@ fn address(address: u32, out: &mut [u8], at: usize) -> usize
 {
     let mut digits = *b"0x00000000";
     hex::encode(&high_first(address), &mut digits, 2);
-    say(&digits, out, at)
+    append::say(&digits, out, at)
 }
 
 // A byte's two digits.
@@ -77,7 +59,7 @@ fn digits(byte: u8, out: &mut [u8], at: usize) -> usize
 {
     let mut field = *b"00";
     hex::encode(&[byte], &mut field, 0);
-    say(&field, out, at)
+    append::say(&field, out, at)
 }
 
 // The number at a place, or 0 past the end.
@@ -116,11 +98,11 @@ fn spell(is_picked: bool, byte: u8, number: usize, text: &[u8], out: &mut [u8], 
         b'#' => decimal(number, out, at),
         b'@' => address((number % ADDRESSES) as u32, out, at),
         b'%' => digits((number % BYTES) as u8, out, at),
-        b'$' => say(text, out, at),
+        b'$' => append::say(text, out, at),
         b'[' => at,
         b'|' => at,
         b']' => at,
-        _ => say(&[byte], out, at),
+        _ => append::say(&[byte], out, at),
     }
 }
 

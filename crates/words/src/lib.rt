@@ -7,7 +7,7 @@ ghost use Prim.Native.Nat.{_≤_};
 ghost use lib.Dec.{eqb};
 ghost use Rattle.decimal.specs.Decimal.{decimalOf};
 ghost use Rattle.words.specs.Names.{namesLength, namesFrom};
-ghost use Rattle.sentence.specs.Said.{left, saidOf};
+ghost use Rattle.append.specs.Said.{left, saidOf};
 ghost use Rattle.words.specs.Words.{requestName, modeName, statusName};
 use device::Device;
 use mode::Mode;
@@ -29,7 +29,7 @@ fn say_part(from: usize, to: usize, out: &mut [u8], at: usize) -> usize
         dfuIDLE|dfuDNLOAD-SYNC|dfuDNBUSY|dfuDNLOAD-IDLE|dfuMANIFEST-SYNC|dfuUPLOAD-IDLE|dfuERROR|left|rebooting|\
         DNLOAD|UPLOAD|GETSTATUS|CLRSTATUS|GETSTATE|ABORT|a request that the loader does not know|\
         OK|errTARGET|errWRITE|errVENDOR|errSTALLEDPKT|";
-    sentence::say(&names[from..to], out, at)
+    append::say(&names[from..to], out, at)
 }
 
 // Where the request's name stands.

@@ -1,5 +1,5 @@
 -- `files::unreadable` meets its contract. Assumes nothing.
-use Rattle.sentence.specs.Said.{saidOf}
+use Rattle.append.specs.Said.{saidOf}
 use Rattle.sentence.specs.Sentence.{sentenceOf}
 use Rattle.files.specs.Unreadable.{template, unreadableOf}
 use mathlib.Core.Path.{_∙_, ap₂}

@@ -1,5 +1,5 @@
 -- `sentence::address` meets its contract. Assumes nothing.
-use Rattle.sentence.proofs.Said.{address-said}
+use Rattle.sentence.proofs.Numbers.{address-said}
 use borrow.Author.Needs.{needs}
 use Rattle.sentence.proofs.address.Statement.{statement}
 use Rattle.sentence.proofs.address.Tie as tie

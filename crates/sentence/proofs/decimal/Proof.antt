@@ -2,7 +2,7 @@
 use native.Mathlib.Omega.{arith}
 use Prim.Native.Nat.{_^_, _<_}
 use Rattle.decimal.proofs.Decimal.{digits-at-most}
-use Rattle.sentence.proofs.Said.{decimal-said}
+use Rattle.sentence.proofs.Numbers.{decimal-said}
 use borrow.Author.Needs.{needs}
 use Rattle.sentence.proofs.decimal.Statement.{statement}
 use Rattle.sentence.proofs.decimal.Tie as tie

@@ -1,5 +1,5 @@
 -- `sentence::digits` meets its contract. Assumes nothing.
-use Rattle.sentence.proofs.Said.{digits-said}
+use Rattle.sentence.proofs.Numbers.{digits-said}
 use borrow.Author.Needs.{needs}
 use Rattle.sentence.proofs.digits.Statement.{statement}
 use Rattle.sentence.proofs.digits.Tie as tie

@@ -4,7 +4,7 @@ use Prim.Native.Nat.{_+_, _-_, _≤_}
 use native.Mathlib.Omega.{arith}
 use lib.ListN.{length, drop}
 use borrow.Author.Needs.{needs}
-use Rattle.sentence.specs.Said.{saidOf}
+use Rattle.append.specs.Said.{saidOf}
 use Rattle.sentence.specs.Sentence.{filledOf, sentenceOf}
 use Rattle.sentence.proofs.Texts.{text-part}
 use Rattle.sentence.proofs.Turns.{fill-turn, fill-end}

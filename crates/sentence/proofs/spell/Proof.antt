@@ -1,6 +1,6 @@
 -- `sentence::spell` meets its contract. Assumes nothing.
 use Rattle.sentence.proofs.Spelled.{spelled-number, spelled-address, spelled-byte, spelled-text, spelled-opens, spelled-bar, spelled-closes, spelled-self}
-use Rattle.sentence.proofs.Said.{said-nothing}
+use Rattle.append.proofs.Said.{said-nothing}
 use borrow.Author.Needs.{needs}
 use borrow.Author.Tests.{not-true, not-false}
 use Rattle.sentence.proofs.spell.Statement.{statement}

@@ -1,5 +1,5 @@
 -- `words::mode` meets its contract. Assumes nothing.
-use Rattle.sentence.proofs.Said.{same-said}
+use Rattle.append.proofs.Said.{same-said}
 use borrow.Author.Needs.{needs}
 use Rattle.words.proofs.mode.Statement.{statement}
 use Rattle.words.proofs.mode.Tie as tie

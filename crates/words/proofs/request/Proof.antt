@@ -1,5 +1,5 @@
 -- `words::request` meets its contract. Assumes nothing.
-use Rattle.sentence.proofs.Said.{same-said}
+use Rattle.append.proofs.Said.{same-said}
 use borrow.Author.Needs.{needs}
 use Rattle.words.proofs.request.Statement.{statement}
 use Rattle.words.proofs.request.Tie as tie

@@ -1,6 +1,6 @@
 -- `words::status` meets its contract. Assumes nothing.
 use mathlib.Core.Path.{_∙_}
-use Rattle.sentence.proofs.Said.{same-said}
+use Rattle.append.proofs.Said.{same-said}
 use Rattle.words.proofs.Statuses.{by-number, by-name, number-said}
 use borrow.Author.Needs.{needs}
 use Rattle.words.proofs.status.Statement.{statement}

@@ -1,18 +1,16 @@
 -- Laws of `saidOf`: what is left by the ways that `say` takes, by the words that are written over it, and by words behind words. Assumes nothing.
 use mathlib.Core.Path.{_≡_, refl, ap, ap₂, _∙_, sym}
-use mathlib.Core.List.{List, [], _∷_, _++_, append-assoc, append-nil}
+use mathlib.Core.List.{List, [], _++_, append-nil}
 use Prim.Native.Nat.{ℕ, _+_, _-_, _≤_, _<_}
 use native.Mathlib.Nat.{add-zero, sub-zero}
 use native.Mathlib.Omega.{arith}
-use lib.ListN.{length, take, drop, take-append-drop, length-append}
-use lib.Seq.{take-all, length-take-le, take-append-seam, take-append-le, take-append-add}
+use lib.ListN.{length, take, take-append-drop, length-append}
+use lib.Seq.{take-all, length-take-le, take-append-le, take-append-add}
 use Rattle.laws.specs.Bytes.{put}
 use Rattle.laws.proofs.Bytes.{put-length, take-at-most}
 use Rattle.laws.proofs.Append.{put-behind}
 use Rattle.laws.proofs.Split.{by-lt}
-use Rattle.hex.specs.Hex.{hexOf}
-use Rattle.decimal.specs.Decimal.{decimalOf}
-use Rattle.sentence.specs.Said.{Said, left, saidOf, highFirst, addressOf}
+use Rattle.append.specs.Said.{Said, left, saidOf}
 
 -- ys are as many of xs as there is room for
 said-as : (xs ys out o : List ℕ) (at n : ℕ) → take (length out - at) xs ≡ ys → n ≡ at + length ys → o ≡ put at ys out → left n o ≡ saidOf xs out at
@@ -97,24 +95,3 @@ said-behind xs ys out o at p s first then =
     ∙ by-lt at (length out)
     (λ h. by-lt (length out - at) (length xs) (λ k. behind-part xs ys out at h k) (λ k. behind-all xs ys out at h k))
     (λ h. behind-none xs ys out at h)
-
-front : (xs : List ℕ) (b : ℕ) (m : List ℕ) → take (length xs) (put 0 (xs ++ (b ∷ [])) m) ≡ xs
-unfolding put
-front xs b m = ap (take (length xs)) (append-assoc xs (b ∷ []) (drop (0 + length (xs ++ (b ∷ []))) m)) ∙ take-append-seam xs (b ∷ drop (0 + length (xs ++ (b ∷ []))) m)
-
--- a number's digits, from a buffer that has them and a byte behind them
-pub decimal-said : (n end b : ℕ) (ds zs out : List ℕ) (at : ℕ) (s : Said) → end ≡ 0 + length (decimalOf n) + 1 → ds ≡ put 0 (decimalOf n ++ (b ∷ [])) zs → s ≡ saidOf (take (end - 1 - 0) ds) out at → s ≡ saidOf (decimalOf n) out at
-decimal-said n end b ds zs out at s e is h =
-    let k : end - 1 - 0 ≡ length (decimalOf n) = omega arith in
-    let d : take (end - 1 - 0) ds ≡ decimalOf n = ap₂ (λ (m : ℕ) (l : List ℕ). take m l) k is ∙ front (decimalOf n) b zs in
-    same-said _ _ out at d h
-
--- an address, from a buffer of ten bytes whose first two are 0x
-pub address-said : (x : ℕ) (bs ds out : List ℕ) (at : ℕ) (s : Said) → bs ≡ highFirst x → ds ≡ put 2 (hexOf bs) (48 ∷ 120 ∷ 48 ∷ 48 ∷ 48 ∷ 48 ∷ 48 ∷ 48 ∷ 48 ∷ 48 ∷ []) → s ≡ saidOf ds out at → s ≡ saidOf (addressOf x) out at
-unfolding put hexOf
-address-said x bs ds out at s b is h = same-said _ _ out at (is ∙ ap (λ (l : List ℕ). put 2 (hexOf l) (48 ∷ 120 ∷ 48 ∷ 48 ∷ 48 ∷ 48 ∷ 48 ∷ 48 ∷ 48 ∷ 48 ∷ [])) b) h
-
--- a byte's two digits, from a buffer of as many
-pub digits-said : (x : ℕ) (ds out : List ℕ) (at : ℕ) (s : Said) → ds ≡ put 0 (hexOf (x ∷ [])) (48 ∷ 48 ∷ []) → s ≡ saidOf ds out at → s ≡ saidOf (hexOf (x ∷ [])) out at
-unfolding put hexOf
-digits-said x ds out at s is h = same-said _ _ out at is h
