@@ -9,12 +9,11 @@ use lib.Seq.{getD-take, getD-drop}
 use borrow.Author.Tests.{eq-eqb}
 use Rattle.laws.proofs.Split.{by-lt}
 use Rattle.board.specs.Layout.{flashBytes, memoryBytes}
-use Rattle.laws.specs.Lists.{same}
+use Rattle.laws.specs.Lists.{same, allAre}
 use Rattle.laws.proofs.Lists.{same-eq}
 use Rattle.verdict.specs.Verdict.{pagesEnd}
 use Rattle.marks.specs.Area.{workBytes}
 use Rattle.cells.specs.Cells.{suspect, lowestFrom}
-use Rattle.laws.specs.Lists.{allAre}
 use Rattle.buffer.proofs.Alike.{are-at}
 use Rattle.cells.proofs.Lowest.{lowest-none}
 use Rattle.checker.proofs.Walking.{suspect-image, suspect-rest, suspect-other}
