@@ -95,7 +95,8 @@ fn size(evidence: Done, room: usize) -> usize
     }
 }
 
-// Says a verdict to people. At the front of `room` stands the evidence that was gathered for it: the job's events, packed.
+// Says a verdict to people. At the front of `room` stands the evidence that was gathered for it: the job's events,
+// packed.
 pub fn explain(verdict: Verdict, evidence: Done, room: &[u8], image: &[u8], card: &[u8]) {
     let packed = &room[0..size(evidence, room.len())];
     match verdict {

@@ -1,5 +1,5 @@
-// Words go into a lent buffer one behind the other, and each call gives the place behind them. What finds no room is left
-// out, so that no caller has to reckon how long a line becomes.
+// Words go into a lent buffer one behind the other, and each call gives the place behind them. What finds no room is
+// left out, so that no caller has to reckon how long a line becomes.
 ghost use mathlib.Core.Path.{_≡_};
 ghost use Rattle.append.specs.Said.{left, saidOf};
 

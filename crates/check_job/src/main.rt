@@ -110,8 +110,8 @@ fn hold(job: &[u8], manner: Manner) {
     suit(job, &image[0..count], after(manner, got));
 }
 
-// Reads the job. All three files are asked for, whatever comes of one: a call without files then costs what a call costs
-// beside its work, and the figures take it off.
+// Reads the job. All three files are asked for, whatever comes of one: a call without files then costs what a call
+// costs beside its work, and the figures take it off.
 fn check(manner: Manner) {
     let mut job = [0u8; JOB_ROOM];
     let got = load(1, b"job|job.txt|job, image and card", &mut job, manner);

@@ -197,7 +197,8 @@ fn advance(board: Board, device: Device, job: &[u8], at: usize, work: &mut [u8])
     }
 }
 
-// How a job comes out before its end is looked at: the number of the first event that fails, or the state of all boards.
+// How a job comes out before its end is looked at: the number of the first event that fails, or the state of all
+// boards.
 enum Outcome {
     Fell(usize),
     Ended(Device),

@@ -30,7 +30,8 @@ fn word(a: u8, b: u8, c: u8, d: u8) -> u16
     hex::byte(a, b) as u16 + hex::byte(c, d) as u16 * 256
 }
 
-// How many bytes of data follow the setup that 16 digits spell. The digits of the length are read only where the kind takes data.
+// How many bytes of data follow the setup that 16 digits spell. The digits of the length are read only where the kind
+// takes data.
 fn data_length(field: &[u8]) -> usize
     requires { ⌜ (length (now field) ≡ 16) × (allDigits (now field) ≡ true) ⌝ }
     ensures { λ r. ⌜ r ≡ dataLength (setupOf (bytesOf (now (field .entry)))) ⌝ }

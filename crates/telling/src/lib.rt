@@ -1,5 +1,5 @@
-// Telling a verdict: the line that it is printed by, the sentence about a file that keeps a program from one, and what it
-// takes to explain one: the job's events, packed, where only boards that live through them can tell why.
+// Telling a verdict: the line that it is printed by, the sentence about a file that keeps a program from one, and
+// what it takes to explain one: the job's events, packed, where only boards that live through them can tell why.
 ghost use mathlib.Core.Path.{_≡_};
 ghost use Rattle.refusal.specs.Delivery.{delivery};
 ghost use Rattle.telling.specs.Gathered.{toldAtOnce, gatheredOf};
@@ -45,8 +45,8 @@ fn told_at_once(verdict: Verdict) -> bool
     }
 }
 
-// The job's events go to the front of `room`, packed, where they are needed. A packed job has half the bytes of its text
-// at most: the checker's work area, which nobody needs after the verdict, is room enough.
+// The job's events go to the front of `room`, packed, where they are needed. A packed job has half the bytes of its
+// text at most: the checker's work area, which nobody needs after the verdict, is room enough.
 pub fn gather(verdict: Verdict, job: &[u8], room: &mut [u8]) -> Done
     ensures { λ r. ⌜ delivery r (now (room .exit)) ≡ gatheredOf verdict (now (job .entry)) (now (room .entry)) ⌝ }
 {

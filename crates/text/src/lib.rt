@@ -69,7 +69,8 @@ pub fn item_at(text: &[u8], at: usize) -> Item
     }
 }
 
-// The event at a place where the text is known to be well formed. A text that was measured before needs no second look at each digit.
+// The event at a place where the text is known to be well formed. A text that was measured before needs no second
+// look at each digit.
 pub fn event_at(text: &[u8], at: usize) -> Item
     requires { ⌜ (at < length (now text)) × (wellSpelled (firstLine (drop at (now text))) ≡ true) ⌝ }
     ensures { λ r. ⌜ r ≡ itemOf (now (text .entry)) at ⌝ }

@@ -1,4 +1,5 @@
-// Hexadecimal, eight digits at a time: a number holds them as its eight bytes, and no sum crosses from one into the next.
+// Hexadecimal, eight digits at a time: a number holds them as its eight bytes, and no sum crosses from one into the
+// next.
 ghost use mathlib.Core.Path.{_≡_};
 ghost use mathlib.Core.Bool.{true};
 ghost use mathlib.Core.List.{map};
