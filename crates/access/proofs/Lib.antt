@@ -1,3 +1,2 @@
 pub mod Address
 pub mod Spans
-pub mod Denials

@@ -1,13 +1,10 @@
 -- Laws in the terms in which the functions over requests meet them. Assumes nothing.
-use mathlib.Core.Path.{_≡_, ap, _∙_}
+use mathlib.Core.Path.{_≡_, ap}
 use mathlib.Core.Bool.{Bool}
 use mathlib.Core.List.{List}
-use Prim.Native.Nat.{ℕ, _+_, _-_, _/_, _≤_}
-use native.Mathlib.Omega.{arith}
+use Prim.Native.Nat.{ℕ, _-_, _/_, _≤_}
 use lib.ListN.{length, getD, List·getD-eq-default}
 use borrow.Author.Tests.{ne-eqb}
-use Rattle.laws.specs.Bytes.{put}
-use Rattle.board.specs.Layout.{memoryBytes, optionsFrom, optionBytes}
 use Rattle.protection.specs.Protection.{readProtected}
 use Rattle.request.specs.declared.Setup.{Setup}
 use Rattle.device.specs.declared.Device.{Device}
@@ -24,8 +21,7 @@ use Rattle.command.specs.Command.{commandOf}
 use Rattle.decision.specs.Decide.{decideOf}
 use Rattle.hex.specs.Hex.{bytesOf}
 use Rattle.hex.proofs.Fields.{bytes-length}
-use Rattle.marks.specs.Marks.{marked}
-use Rattle.cells.specs.Cells.{learnt, Worked, worked, workedOf, reports, statusMoves, readMoves, readsMoves, decisionMoves, requestMoves, begun}
+use Rattle.cells.specs.Cells.{Worked, worked, workedOf, reports, statusMoves, readMoves, readsMoves, decisionMoves, requestMoves}
 
 pub status-rests : (n : ℕ) (d : Device) (w : List ℕ) → (wireOf (d .mode) ≡ 3 → ⊥) → reports d (nothingRan d) w ≡ statusMoves n d w
 unfolding statusMoves
@@ -49,11 +45,3 @@ pub field-past : (ds : List ℕ) (i : ℕ) → length ds / 2 ≤ i → getD (byt
 field-past ds i h =
     let l : length (bytesOf ds) ≤ i = rw bytes-length h in
     List·getD-eq-default (bytesOf ds) 0 l
-
--- the start of the work area: marks cleared, the card laid and marked
-pub begun-is : (n bytes options : ℕ) (card w w₁ w₂ w₃ : List ℕ) → bytes ≡ memoryBytes n → options ≡ optionsFrom n → length card ≡ optionBytes → w₁ ≡ marked n 0 (bytes - 0) 0 w → w₂ ≡ put options card w₁ → w₃ ≡ marked n options (options + optionBytes - options) 1 w₂ → w₃ ≡ begun n card w
-unfolding begun learnt
-begun-is n bytes options card w w₁ w₂ w₃ b o l e₁ e₂ e₃ =
-    let k : bytes - 0 ≡ bytes = omega arith in
-    let m : options + optionBytes - options ≡ length card = omega arith in
-    e₃ ∙ rw (e₂, e₁, m, k, o, b)

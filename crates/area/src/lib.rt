@@ -4,7 +4,6 @@ ghost use mathlib.Core.Bool.{true, false};
 ghost use mathlib.Core.List.{List};
 ghost use Prim.Native.Nat.{ℕ, _*_, _<_};
 ghost use lib.ListN.{length, getD};
-ghost use Rattle.board.specs.Layout.{optionBytes};
 ghost use Rattle.request.specs.Setup.{dataLength};
 ghost use Rattle.states.specs.WellFormed.{wellFormed};
 ghost use Rattle.command.specs.Command.{commandOf};
@@ -12,7 +11,7 @@ ghost use Rattle.decision.specs.Decide.{decideOf, isStatus};
 ghost use Rattle.hex.specs.Hex.{allDigits, bytesOf};
 ghost use Rattle.area.specs.Moved.{movedAs};
 ghost use Rattle.marks.specs.Area.{workBytes};
-ghost use Rattle.cells.specs.Cells.{reports, statusMoves, readsMoves, requestMoves, begun};
+ghost use Rattle.cells.specs.Cells.{reports, statusMoves, readsMoves, requestMoves};
 use access::Access;
 use board::Board;
 use command::Command;
@@ -145,15 +144,4 @@ fn decided(board: Board, device: Device, setup: Setup, field: &[u8], work: &mut 
         // Never: it was asked for before.
         Decision::Status => falling(device),
     }
-}
-
-// The options are known from the start, and nothing else.
-pub fn begin(board: Board, card: &[u8], work: &mut [u8])
-    requires { ⌜ (length (now work) ≡ workBytes (board .pages)) × (length (now card) ≡ optionBytes) ⌝ }
-    ensures { λ _. ⌜ now (work .exit) ≡ begun (board .pages) (now (card .entry)) (now (work .entry)) ⌝ }
-{
-    let options = board.options_from();
-    marks::mark(board, work, 0, board.memory_bytes(), 0);
-    buffer::put(work, options, card);
-    marks::mark(board, work, options, options + Board::OPTION_BYTES, 1);
 }

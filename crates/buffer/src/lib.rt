@@ -5,6 +5,7 @@ ghost use lib.ListN.{length, getD, drop};
 ghost use Rattle.laws.specs.Bytes.{put, filled};
 ghost use Rattle.laws.specs.Lists.{same, allAre};
 ghost use Rattle.buffer.specs.Least.{leastOf};
+ghost use Rattle.buffer.specs.Change.{firstChange};
 
 // The smaller of two.
 pub fn least(a: usize, b: usize) -> usize
@@ -74,4 +75,19 @@ pub fn same_bytes(these: &[u8], those: &[u8]) -> bool
         i += 1;
     }
     alike
+}
+
+// The lowest place from `from` up to `to` where the two differ, or the first that is not below `to`. Bytes that are not
+// there count as 0.
+pub fn first_change(old: &[u8], new: &[u8], from: usize, to: usize) -> usize
+    ensures { λ r. ⌜ (r ≡ firstChange (now (old .entry)) (now (new .entry)) (to - from) from) × (from ≤ r) ⌝ }
+{
+    let mut i = from;
+    while i < to {
+        if byte_at(old, i) != byte_at(new, i) {
+            return i;
+        }
+        i += 1;
+    }
+    i
 }

@@ -52,7 +52,7 @@ fn refuse(manner: Manner, got: Got, argument: usize, file: &[u8]) {
     }
     print(Verdict::Refused(Refusal::File));
     if !manner.is_quiet {
-        telling::unreadable(got, argument, file);
+        files::unreadable(got, argument, file);
     }
 }
 

@@ -2,3 +2,4 @@ pub mod Walking
 pub mod Advancing
 pub mod Judging
 pub mod Right
+pub mod Beginning

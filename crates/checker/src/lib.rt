@@ -16,7 +16,7 @@ ghost use Rattle.checker.specs.Walk.{Ahead, Advanced, overAs};
 ghost use Rattle.verdict.specs.Report.{inFields};
 ghost use Rattle.marks.specs.Area.{workBytes};
 ghost use Rattle.verdict.specs.Checked.{checkable, Checked};
-ghost use Rattle.cells.specs.Cells.{overOf, suspect, lowestFrom, endNumber, endVerdict, verdictOf};
+ghost use Rattle.cells.specs.Cells.{overOf, suspect, lowestFrom, endNumber, endVerdict, begun, verdictOf};
 use board::Board;
 use device::Device;
 use mode::Mode;
@@ -225,12 +225,23 @@ fn run(board: Board, job: &[u8], work: &mut [u8]) -> Outcome
     Outcome::Ended(device)
 }
 
+// The options are known from the start, and nothing else.
+fn begin(board: Board, card: &[u8], work: &mut [u8])
+    requires { ⌜ (length (now work) ≡ workBytes (board .pages)) × (length (now card) ≡ optionBytes) ⌝ }
+    ensures { λ _. ⌜ now (work .exit) ≡ begun (board .pages) (now (card .entry)) (now (work .entry)) ⌝ }
+{
+    let options = board.options_from();
+    marks::mark(board, work, 0, board.memory_bytes(), 0);
+    buffer::put(work, options, card);
+    marks::mark(board, work, options, options + Board::OPTION_BYTES, 1);
+}
+
 // The verdict of a job that is well formed.
 fn judge(board: Board, job: &[u8], image: &[u8], card: &[u8], work: &mut [u8]) -> Verdict
     requires { ⌜ (length (now work) ≡ workBytes (board .pages)) × (1 ≤ board .pages) × Ahead (now job) 0 × (length (now image) ≤ flashBytes (board .pages)) × (length (now card) ≡ optionBytes) ⌝ }
     ensures { λ r. ⌜ r ≡ verdictOf (board .pages) (eventsOf (now (job .entry))) (now (image .entry)) (now (card .entry)) (now (work .entry)) ⌝ }
 {
-    area::begin(board, card, work);
+    begin(board, card, work);
     let outcome = run(board, job, work);
     match outcome {
         Outcome::Fell(k) => Verdict::Event(k),

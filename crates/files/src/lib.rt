@@ -11,6 +11,10 @@ ghost use lib.ListN.{length};
 ghost use Rattle.append.specs.Said.{left, saidOf};
 ghost use Rattle.files.specs.Came.{Came};
 ghost use Rattle.files.specs.Unreadable.{causeOf, unreadableOf};
+use libc::STDERR_FILENO;
+
+// Room for what is said of a file.
+const ROOM: usize = 512;
 
 // What keeps a file from being read.
 pub enum Fault {
@@ -167,7 +171,7 @@ fn cause(fault: Fault, is_named: bool) -> usize
 }
 
 // What to say of a file that could not be read goes to the front of `out`; gives how long it is.
-pub fn unreadable(got: Got, argument: usize, file: &[u8], out: &mut [u8]) -> usize
+fn complaint(got: Got, argument: usize, file: &[u8], out: &mut [u8]) -> usize
     ensures { λ r. ⌜ left r (now (out .exit)) ≡ saidOf (unreadableOf (got .fault) (got .«is_named») argument (now (file .entry))) (now (out .entry)) 0 ⌝ }
 {
     let fault = got.fault;
@@ -178,6 +182,14 @@ pub fn unreadable(got: Got, argument: usize, file: &[u8], out: &mut [u8]) -> usi
         out,
         0,
     )
+}
+
+// Says on standard error why a file could not be read, and what to do.
+pub fn unreadable(got: Got, argument: usize, file: &[u8]) {
+    let mut room = [0u8; ROOM];
+    let count = complaint(got, argument, file, &mut room);
+    write(STDERR_FILENO, &room, count);
+    write(STDERR_FILENO, b"\n", 1);
 }
 
 // Writes the first `count` bytes, or all where there are not so many.

@@ -32,7 +32,7 @@ use Rattle.access.specs.declared.Access.the-variants.{Denied, InFlash, InRam, I
 use Rattle.action.specs.declared.Action.{Action}
 use Rattle.action.specs.declared.Action.the-variants.{Rest, Fail, Point, Erase, EraseAll, Unprotect, ClearRam, StoreFlash, StoreRam, StoreOptions}
 use Rattle.access.specs.Access.{blockAccess}
-use Rattle.access.proofs.Denials.{Refusing, block-refusing}
+use Rattle.action.proofs.Denials.{Refusing, block-refusing}
 use Rattle.action.specs.Action.{pointOf, eraseAt, storeAt, actionIn, actionOf, movedOf, ranOf}
 use Rattle.flash.specs.Flash.{blank}
 use Rattle.loader.specs.declared.Event.{Event}

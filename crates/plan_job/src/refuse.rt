@@ -34,7 +34,7 @@ pub(crate) fn arguments() {
 // A file that is not readable.
 pub(crate) fn unreadable(got: Got, argument: usize, file: &[u8]) {
     name(Refusal::File);
-    telling::unreadable(got, argument, file);
+    files::unreadable(got, argument, file);
 }
 
 fn image(size: usize) {

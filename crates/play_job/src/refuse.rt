@@ -25,5 +25,5 @@ pub(crate) fn say(why: Refusal, template: &[u8]) {
 // A file that is not readable.
 pub(crate) fn unreadable(got: Got, argument: usize, file: &[u8]) {
     name(Refusal::File);
-    telling::unreadable(got, argument, file);
+    files::unreadable(got, argument, file);
 }

@@ -1,5 +1,4 @@
-// Packed events on a board, for the programs that play a job to one: what an event asks for, what comes of it, and
-// where it changes something.
+// Packed events on a board, for the programs that play a job to one: what an event asks for, and what comes of it.
 ghost use mathlib.Core.Path.{_≡_};
 ghost use mathlib.Core.Bool.{cond};
 ghost use Prim.Native.Nat.{_-_, _≤_};
@@ -7,7 +6,6 @@ ghost use lib.Dec.{eqb};
 ghost use lib.ListN.{length, drop, getD};
 ghost use Rattle.loader.specs.Answer.{left};
 ghost use Rattle.player.specs.Played.{playedOf};
-ghost use Rattle.player.specs.Change.{firstChange};
 ghost use Rattle.player.specs.Asked.{waitsOf, askedOf};
 use command::Command;
 use decision::Decision;
@@ -96,19 +94,4 @@ pub fn asks(piece: &[u8]) -> Asked
         setup,
         pending,
     }
-}
-
-// The lowest place from `from` up to `to` where the two differ, or the first that is not below `to`. Bytes that are not
-// there count as 0.
-pub fn first_change(old: &[u8], new: &[u8], from: usize, to: usize) -> usize
-    ensures { λ r. ⌜ (r ≡ firstChange (now (old .entry)) (now (new .entry)) (to - from) from) × (from ≤ r) ⌝ }
-{
-    let mut i = from;
-    while i < to {
-        if buffer::byte_at(old, i) != buffer::byte_at(new, i) {
-            return i;
-        }
-        i += 1;
-    }
-    i
 }

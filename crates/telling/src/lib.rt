@@ -1,18 +1,13 @@
-// Telling a verdict: the line that it is printed by, the sentence about a file that keeps a program from one, and
-// what it takes to explain one: the job's events, packed, where only boards that live through them can tell why.
+// Telling a verdict: the line that it is printed by, and what it takes to explain it: the job's events, packed, where
+// only boards that live through them can tell why.
 ghost use mathlib.Core.Path.{_≡_};
 ghost use Rattle.refusal.specs.Delivery.{delivery};
 ghost use Rattle.telling.specs.Gathered.{toldAtOnce, gatheredOf};
-use files::Got;
-use libc::STDERR_FILENO;
 use refusal::Done;
 use verdict::Verdict;
 
 // A line has a word, a digit or two, and a number.
 const LINE_ROOM: usize = 64;
-
-// Room for the sentence about a file.
-const ROOM: usize = 512;
 
 // Prints the verdict's line.
 pub fn line(fd: i32, verdict: Verdict) {
@@ -22,14 +17,6 @@ pub fn line(fd: i32, verdict: Verdict) {
         Done::Bytes(count) => files::write(fd, &line, count),
         Done::Refused(_) => {}
     }
-}
-
-// Says on standard error why a file could not be read, and what to do.
-pub fn unreadable(got: Got, argument: usize, file: &[u8]) {
-    let mut room = [0u8; ROOM];
-    let count = files::unreadable(got, argument, file, &mut room);
-    files::write(STDERR_FILENO, &room, count);
-    files::write(STDERR_FILENO, b"\n", 1);
 }
 
 // Is the verdict explained without a board?

@@ -17,7 +17,7 @@ use Rattle.loader.specs.declared.Stepped.{Stepped}
 use Rattle.loader.specs.Answer.{left}
 use Rattle.packed.specs.Ways.{pieceLength}
 use Rattle.player.specs.Played.{playedOf}
-use Rattle.player.specs.Change.{firstChange}
+use Rattle.buffer.specs.Change.{firstChange}
 use Rattle.trial.specs.declared.Scene.{Scene}
 use Rattle.trial.specs.Trial.{unplayed, nextOf, Life, life, livedOn, turnOf, livesOf, firstWritten, targetOf, surveyed, equipped, zeros, lastOf, trialOf}
 

@@ -1,8 +1,8 @@
--- `area::begin` meets its contract. Assumes nothing.
-use Rattle.area.proofs.Answers.{begun-is}
+-- `checker::begin` meets its contract. Assumes nothing.
+use Rattle.checker.proofs.Beginning.{begun-is}
 use borrow.Author.Needs.{needs}
-use Rattle.area.proofs.begin.Statement.{statement}
-use Rattle.area.proofs.begin.Tie as tie
+use Rattle.checker.proofs.begin.Statement.{statement}
+use Rattle.checker.proofs.begin.Tie as tie
 
 options-from-requires : tie.Need-options-from-requires
 options-from-requires c κs = search needs

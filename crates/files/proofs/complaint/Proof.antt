@@ -1,4 +1,4 @@
--- `files::unreadable` meets its contract. Assumes nothing.
+-- `files::complaint` meets its contract. Assumes nothing.
 use Rattle.append.specs.Said.{saidOf}
 use Rattle.sentence.specs.Sentence.{sentenceOf}
 use Rattle.files.specs.Unreadable.{template, unreadableOf}
@@ -6,8 +6,8 @@ use mathlib.Core.Path.{_∙_, ap₂}
 use mathlib.Core.List.{[], _∷_}
 use Prim.Native.Nat.{ℕ}
 use borrow.Author.Needs.{needs}
-use Rattle.files.proofs.unreadable.Statement.{statement}
-use Rattle.files.proofs.unreadable.Tie as tie
+use Rattle.files.proofs.complaint.Statement.{statement}
+use Rattle.files.proofs.complaint.Tie as tie
 
 slice-aggregate-fill : tie.Need-slice-aggregate-fill
 slice-aggregate-fill c = search needs
@@ -34,8 +34,8 @@ returns c =
     let a = n .before .before .before .before .before .args in
     c .before .before .fill .ensures ∙ ap₂ (λ (p : ℕ) (k : ℕ). saidOf (sentenceOf template (p ∷ k ∷ []) (a .file .now)) (a .out .now) 0) (n .before .place .ensures) (n .cause .ensures)
 
-pub unreadable-spec : {M : Type 1} → statement M
-unreadable-spec =
+pub complaint-spec : {M : Type 1} → statement M
+complaint-spec =
     tie.close
     (tie.spec
     slice-aggregate-fill
