@@ -1,5 +1,5 @@
 -- `checker::begin` meets its contract. Assumes nothing.
-use Rattle.checker.proofs.Beginning.{begun-is}
+use Rattle.checker.proofs.Beginning.{begin-is}
 use borrow.Author.Needs.{needs}
 use Rattle.checker.proofs.begin.Statement.{statement}
 use Rattle.checker.proofs.begin.Tie as tie
@@ -30,7 +30,7 @@ returns c =
     let p = c .before .before .before .before .before .before in
     let m = p .before .before .before .before in
     let o = m .before .before .before in
-    begun-is _ _ _ _ _ _ _ _ (m .before .memory-bytes .ensures) (o .options-from .ensures) (o .before .before .before .pre .1) (m .mark .ensures) (p .put .ensures) (c .before .before .mark2 .ensures)
+    begin-is _ _ _ _ _ _ _ _ (m .before .memory-bytes .ensures) (o .options-from .ensures) (o .before .before .before .pre .1) (m .mark .ensures) (p .put .ensures) (c .before .before .mark2 .ensures)
 
 pub begin-spec : {M : Type 1} → statement M
 begin-spec =
