@@ -39,7 +39,7 @@ fn print(verdict: Verdict) {
     telling::line(STDOUT_FILENO, verdict);
 }
 
-// How the program goes about it: with the line alone, and with a file that it could not read.
+// How the program goes about it: does it print the line alone, and has it refused for a file?
 struct Manner {
     is_quiet: bool,
     is_refused: bool,
