@@ -1,17 +1,16 @@
-// A verdict in words, on standard error: why it is so, and what to do.
-mod deed;
-mod ends;
-mod event;
-mod flash;
-mod form;
-mod place;
-mod refused;
-mod say;
-
+// A verdict in words, on standard error: the board that shows it lives through the job, and tells why it is so.
 ghost use Prim.Native.Nat.{_≤_};
 use board::Board;
-use ends::Altered;
-use flash::Found;
+use device::Device;
+use device::Pending;
+use reasons::ends;
+use reasons::ends::Altered;
+use reasons::ends::Stopped;
+use reasons::event;
+use reasons::event::Failed;
+use reasons::flash;
+use reasons::flash::Found;
+use reasons::refused;
 use refusal::Done;
 use verdict::Verdict;
 
@@ -27,7 +26,19 @@ fn before(line: usize) -> usize {
 fn failed(line: usize, packed: &[u8], card: &[u8]) {
     let scene = trial::run(packed, before(line), card, 0, 0);
     let at = buffer::least(scene.at, packed.len());
-    event::explain(line, scene, player::asks(&packed[at..]));
+    let asked = player::asks(&packed[at..]);
+    let device = scene.device;
+    let setup = asked.setup;
+    let spelled = asked.pending;
+    event::explain(Failed {
+        line,
+        device,
+        setup,
+        spelled,
+        left: scene.left,
+        dirt: scene.dirt,
+        is_protected: scene.is_protected,
+    });
 }
 
 // The end, and which option byte is not the card's.
@@ -45,7 +56,14 @@ fn ended(condition: u8, packed: &[u8], card: &[u8]) {
         line: option.changed,
         is_protected: protection::locked(card, 0),
     };
-    ends::explain(condition, scene, found, cause.device);
+    let device = scene.device;
+    let stopped = Stopped {
+        device,
+        count: scene.count,
+        pointed: scene.pointed,
+        left: scene.left,
+    };
+    ends::explain(condition, stopped, found, cause.device);
 }
 
 // The byte that belongs into flash at an offset, in the pages of the image.
@@ -56,11 +74,35 @@ fn wanted(offset: usize, image: &[u8]) -> u8 {
     0xFF
 }
 
+// Where an offset lies: 0 in an image of this size, 1 behind it in its last page, 2 in a page that it does not reach.
+fn side(offset: usize, size: usize) -> usize {
+    if offset < size {
+        return 0;
+    }
+    if size % Board::PAGE != 0 && offset / Board::PAGE == size / Board::PAGE {
+        return 1;
+    }
+    2
+}
+
+// Of the last two lines that changed a byte, the one that is at fault: the last or, behind the image, where that one
+// wrote, the one before it, which erased. `last` is the device before the last one.
+fn doer(side: usize, changed: usize, earlier: usize, last: Device) -> usize {
+    let pending = last.pending;
+    if side < 2 {
+        return changed;
+    }
+    match pending {
+        Pending::Write { .. } => earlier,
+        _ => changed,
+    }
+}
+
 // The byte that differs, on two boards, and what did something to it.
 fn differs(offset: usize, packed: &[u8], image: &[u8], card: &[u8]) {
     let all = packed.len();
     let page = offset / Board::PAGE;
-    let side = flash::side(offset, image.len());
+    let side = side(offset, image.len());
     let zero = trial::run(packed, all, card, 0, offset);
     let erased = trial::run(packed, all, card, 0xFF, offset);
     let guard = trial::run(
@@ -71,7 +113,7 @@ fn differs(offset: usize, packed: &[u8], image: &[u8], card: &[u8]) {
         trial::OPTIONS_AT + protection::option_of(page),
     );
     let last = trial::run(packed, before(zero.changed), card, 0, offset);
-    let line = flash::doer(side, zero.changed, zero.earlier, last.device);
+    let line = doer(side, zero.changed, zero.earlier, last.device);
     let cause = trial::run(packed, before(line), card, 0, offset);
     let found = Found {
         offset,

@@ -4,7 +4,6 @@ use crate::place;
 use crate::say;
 use device::Device;
 use device::Pending;
-use player::Asked;
 use request::Request;
 use request::Setup;
 
@@ -96,11 +95,9 @@ fn status(pointer: u32, waits: Pending) -> Deed {
 }
 
 // A request that the loader knows.
-fn known(device: Device, request: Request, asked: Asked) -> Deed {
+fn known(device: Device, request: Request, setup: Setup, spelled: Pending) -> Deed {
     let pointer = device.pointer;
     let waits = device.pending;
-    let setup = asked.setup;
-    let spelled = asked.pending;
     match request {
         Request::Download => download(pointer, setup, spelled),
         Request::Upload => upload(pointer, setup),
@@ -141,17 +138,16 @@ fn tell(lead: usize, deed: Deed) {
 
 // The line that changed something, and what it ran on the device; `letter` is 0 for a capital one, at the front of a
 // sentence.
-pub(crate) fn ran(letter: usize, line: usize, device: Device) {
+pub fn ran(letter: usize, line: usize, device: Device) {
     let pending = device.pending;
     say::tell(b"[L|l]ine # of the job runs ", letter, line, 0, 0);
     tell(0, of(device.pointer, pending));
 }
 
-// A request to a device in this state.
-pub(crate) fn describe(device: Device, asked: Asked) {
-    let setup = asked.setup;
+// A request to a device in this state; `spelled` is the command that its data spells.
+pub fn describe(device: Device, setup: Setup, spelled: Pending) {
     let request = setup.request();
-    let deed = known(device, request, asked);
+    let deed = known(device, request, setup, spelled);
     say::request(form::named(setup));
     match request {
         Request::Unknown => form::describe(setup),

@@ -2,15 +2,16 @@
 //
 // Two boards tell what the job does to a byte: one had flash all zero, one had it erased. Where they agree after the
 // job, the job set the byte; where they do not, it left it as it was.
-use crate::deed;
-use crate::place;
-use crate::say;
 use board::Board;
 use device::Device;
 use device::Pending;
+use wording::deed;
+use wording::place;
+use wording::say;
 
-// A byte of flash after the job: where it lies, as `side` says, its value on either board, the one that it has to have,
-// whether the card protects its page, and the last line that changed the option byte of its page.
+// A byte of flash after the job: on which side of the image's end it lies (0 in the image, 1 behind it in its last page,
+// 2 in a page that it does not reach), its value on either board, the one that it has to have, whether the card protects
+// its page, and the last line that changed the option byte of its page.
 pub struct Found {
     pub offset: usize,
     pub side: usize,
@@ -19,30 +20,6 @@ pub struct Found {
     pub want: u8,
     pub is_locked: bool,
     pub line: usize,
-}
-
-// Where an offset lies: 0 in an image of this size, 1 behind it in its last page, 2 in a page that it does not reach.
-pub(crate) fn side(offset: usize, size: usize) -> usize {
-    if offset < size {
-        return 0;
-    }
-    if size % Board::PAGE != 0 && offset / Board::PAGE == size / Board::PAGE {
-        return 1;
-    }
-    2
-}
-
-// Of the last two lines that changed a byte, the one that is at fault: the last or, behind the image, where that one
-// wrote, the one before it, which erased. `last` is the device before the last one.
-pub(crate) fn doer(side: usize, changed: usize, earlier: usize, last: Device) -> usize {
-    let pending = last.pending;
-    if side < 2 {
-        return changed;
-    }
-    match pending {
-        Pending::Write { .. } => earlier,
-        _ => changed,
-    }
 }
 
 // Why the job leaves the byte as it was: the card protects its page, the job does not erase and write it, or it does so
@@ -99,7 +76,7 @@ fn done(found: Found, line: usize, device: Device) {
 }
 
 // The byte, and the line that did something to it, on this device.
-pub(crate) fn explain(found: Found, line: usize, device: Device) {
+pub fn explain(found: Found, line: usize, device: Device) {
     say::text(b"The byte at ");
     place::flash(found.offset);
     say::tell(

@@ -1,17 +1,27 @@
 // Why an event fails, and what to do.
-use crate::deed;
-use crate::form;
-use crate::place;
-use crate::say;
 use board::Board;
 use board::Place;
 use device::Device;
 use device::Pending;
 use mode::Mode;
-use player::Asked;
 use request::Request;
 use request::Setup;
-use trial::Scene;
+use wording::deed;
+use wording::form;
+use wording::place;
+use wording::say;
+
+// An event that fails: its line, the board before it, its setup and the command that its data spells. Then, of that
+// board: the line by which the loader has left, the first byte of flash in the way of a write, and read protection.
+pub struct Failed {
+    pub line: usize,
+    pub device: Device,
+    pub setup: Setup,
+    pub spelled: Pending,
+    pub left: usize,
+    pub dirt: usize,
+    pub is_protected: bool,
+}
 
 // Reasons have numbers, up to 9 as the sentence in `tell` counts them. These have sentences of their own: flash that is
 // not erased, a setup that has not the form of a request, and, from the third on, requests that the mode does not take.
@@ -145,18 +155,19 @@ fn tell(reason: usize, left: usize, dirt: usize, mode: Mode, setup: Setup) {
     }
 }
 
-// The line of the event, its request, and the reason; the scene is as before the event.
-pub(crate) fn explain(line: usize, scene: Scene, asked: Asked) {
-    let device = scene.device;
+// The line of the event, its request, and the reason.
+pub fn explain(failed: Failed) {
+    let device = failed.device;
     let mode = device.mode;
-    let setup = asked.setup;
-    say::tell(b"Line # of the job is ", line, 0, 0, 0);
-    deed::describe(device, asked);
+    let setup = failed.setup;
+    let spelled = failed.spelled;
+    say::tell(b"Line # of the job is ", failed.line, 0, 0, 0);
+    deed::describe(device, setup, spelled);
     say::text(b". ");
     tell(
-        why(device, setup, scene.is_protected),
-        scene.left,
-        scene.dirt,
+        why(device, setup, failed.is_protected),
+        failed.left,
+        failed.dirt,
         mode,
         setup,
     );

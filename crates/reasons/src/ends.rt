@@ -1,10 +1,17 @@
 // Which condition at the job's end fails, and what to do.
-use crate::deed;
-use crate::place;
-use crate::say;
 use device::Device;
 use mode::Mode;
-use trial::Scene;
+use wording::deed;
+use wording::place;
+use wording::say;
+
+// The board after the job, how many lines it has, the last that set the pointer, and the one by which the loader leaves.
+pub struct Stopped {
+    pub device: Device,
+    pub count: usize,
+    pub pointed: usize,
+    pub left: usize,
+}
 
 // The first option byte that is not the card's: its number, its value on the board and on the card, the last line that
 // changed it, and whether the card is read-protected.
@@ -83,13 +90,13 @@ fn changed(found: Altered, device: Device) {
     );
 }
 
-// What the board is like after the job, on which this condition fails, and before the line that altered its options.
-pub(crate) fn explain(condition: u8, scene: Scene, found: Altered, before: Device) {
-    let device = scene.device;
+// The condition that fails after the job; `before` is the board before the line that altered its options.
+pub fn explain(condition: u8, stopped: Stopped, found: Altered, before: Device) {
+    let device = stopped.device;
     let mode = device.mode;
     match condition {
-        1 => stayed(mode, scene.count),
-        2 => astray(device.pointer, scene.pointed, scene.left),
+        1 => stayed(mode, stopped.count),
+        2 => astray(device.pointer, stopped.pointed, stopped.left),
         _ => changed(found, before),
     }
 }
