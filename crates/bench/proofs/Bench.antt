@@ -10,8 +10,8 @@ use Rattle.laws.specs.Lists.{allBytes}
 use Rattle.verdict.specs.declared.Verdict.the-variants.{End}
 use Rattle.verdict.specs.Verdict.{endFails, Judged}
 use Rattle.marks.specs.Area.{workBytes}
-use Rattle.cells.specs.Cells.{overOf, lowestFrom, endNumber, endVerdict, verdictOf}
-use Rattle.cells.proofs.Judgement.{judged}
+use Rattle.judgement.specs.Judgement.{overOf, lowestFrom, endNumber, endVerdict, verdictOf}
+use Rattle.judgement.proofs.Judgement.{judged}
 use Rattle.bench.specs.Case.{found, foundIn, expectedIn}
 use Rattle.bench.specs.Table.{table}
 

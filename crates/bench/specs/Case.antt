@@ -26,7 +26,7 @@ use Rattle.line.specs.Event.{Event}
 use Rattle.verdict.specs.declared.Verdict.{Verdict}
 use Rattle.verdict.specs.Verdict.{endFails}
 use Rattle.marks.specs.Area.{workBytes}
-use Rattle.cells.specs.Cells.{overOf, lowestFrom, endNumber, endVerdict, verdictOf}
+use Rattle.judgement.specs.Judgement.{overOf, lowestFrom, endNumber, endVerdict, verdictOf}
 
 -- compute the address of a block, by wValue, wLength and pointer; make requests of a board with this memory; check a job, for an image and a card
 pub data Deed : Type 0 where

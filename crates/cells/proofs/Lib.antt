@@ -1,11 +1,3 @@
 pub mod Learnt
 pub mod Likeness
 pub mod Actions
-pub mod Performs
-pub mod Moves
-pub mod Events
-pub mod InForm
-pub mod Runs
-pub mod Boards
-pub mod Judgement
-pub mod Lowest

@@ -18,10 +18,10 @@ use Rattle.verdict.specs.declared.Verdict.the-variants as verdict
 use Rattle.verdict.specs.Report.{inFields}
 use Rattle.verdict.specs.Checked.{checkable, Checked}
 use Rattle.verdict.proofs.Supply.{Checkable, checkable-parts}
-use Rattle.cells.specs.Cells.{overOf, endVerdict, overVerdict, begun, verdictOf}
-use Rattle.cells.proofs.Events.{Fitting}
-use Rattle.cells.proofs.Runs.{AllFit}
-use Rattle.cells.proofs.Judgement.{judged}
+use Rattle.judgement.specs.Judgement.{overOf, endVerdict, overVerdict, begun, verdictOf}
+use Rattle.judgement.proofs.Events.{Fitting}
+use Rattle.judgement.proofs.Runs.{AllFit}
+use Rattle.judgement.proofs.Judgement.{judged}
 use Rattle.checker.specs.declared.Outcome.{Outcome}
 use Rattle.checker.specs.declared.Outcome.the-variants as outcome
 use Rattle.checker.specs.Walk.{overAs}

@@ -13,9 +13,9 @@ use Rattle.laws.specs.Lists.{same, allAre}
 use Rattle.laws.proofs.Lists.{same-eq}
 use Rattle.verdict.specs.Verdict.{pagesEnd}
 use Rattle.marks.specs.Area.{workBytes}
-use Rattle.cells.specs.Cells.{suspect, lowestFrom}
+use Rattle.judgement.specs.Judgement.{suspect, lowestFrom}
 use Rattle.buffer.proofs.Alike.{are-at}
-use Rattle.cells.proofs.Lowest.{lowest-none}
+use Rattle.judgement.proofs.Lowest.{lowest-none}
 use Rattle.checker.proofs.Walking.{suspect-image, suspect-rest, suspect-other}
 
 -- a byte of a part that is all v

@@ -13,7 +13,7 @@ use Rattle.device.specs.declared.Device.{Device}
 use Rattle.laws.specs.Lists.{same}
 use Rattle.verdict.specs.declared.Verdict.the-variants as verdict
 use Rattle.verdict.specs.Verdict.{pagesEnd}
-use Rattle.cells.specs.Cells.{suspect, lowestFrom, flashVerdict, endNumber, endOr, endVerdict}
+use Rattle.judgement.specs.Judgement.{suspect, lowestFrom, flashVerdict, endNumber, endOr, endVerdict}
 
 pub lowest-found : (test : ℕ → Bool) (i e : ℕ) → i < e → test i ≡ true → i ≡ lowestFrom test (e - i) i
 unfolding lowestFrom

@@ -7,7 +7,7 @@ use lib.ListN.{length, drop}
 use Rattle.device.specs.declared.Device.{Device}
 use Rattle.states.specs.WellFormed.{wellFormed}
 use Rattle.text.specs.Text.{firstBad, eventsOf}
-use Rattle.cells.specs.Cells.{Over, fell, ended, overOf}
+use Rattle.judgement.specs.Judgement.{Over, fell, ended, overOf}
 use Rattle.checker.specs.declared.Onward.{Onward}
 use Rattle.checker.specs.declared.Outcome.{Outcome}
 use Rattle.checker.specs.declared.Outcome.the-variants as outcome

@@ -16,7 +16,7 @@ ghost use Rattle.checker.specs.Walk.{Ahead, Advanced, overAs};
 ghost use Rattle.verdict.specs.Report.{inFields};
 ghost use Rattle.marks.specs.Area.{workBytes};
 ghost use Rattle.verdict.specs.Checked.{checkable, Checked};
-ghost use Rattle.cells.specs.Cells.{overOf, suspect, lowestFrom, endNumber, endVerdict, begun, verdictOf};
+ghost use Rattle.judgement.specs.Judgement.{overOf, suspect, lowestFrom, endNumber, endVerdict, begun, verdictOf};
 use board::Board;
 use device::Device;
 use mode::Mode;

@@ -3,3 +3,4 @@ pub mod Perform
 pub mod Serve
 pub mod Step
 pub mod Inner
+pub mod World

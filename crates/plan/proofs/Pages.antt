@@ -21,11 +21,12 @@ use Rattle.mode.specs.Table.{allowedOf}
 use Rattle.laws.specs.Lists.{allBytes}
 use Rattle.flash.specs.Flash.{kept, stored}
 use Rattle.line.specs.Event.{Event}
-use Rattle.verdict.specs.World.{Fresh}
+use Rattle.verdict.specs.Boards.{Fresh}
 use Rattle.marks.specs.Area.{workBytes}
 use Rattle.marks.specs.Marks.{blockFrom}
-use Rattle.cells.specs.Cells.{known, pageErased, begun, overOf}
-use Rattle.cells.proofs.Boards.{fresh-alike, plain, plain-fresh, plain-byte}
+use Rattle.cells.specs.Cells.{known, pageErased}
+use Rattle.judgement.specs.Judgement.{begun, overOf}
+use Rattle.judgement.proofs.Boards.{fresh-alike, plain, plain-fresh, plain-byte}
 use Rattle.plan.specs.Plan.{pageAddress, padded, pageOf, polled, erasePage, setPointer, download}
 use Rattle.plan.proofs.Requests.{resting, idle-free, pointer-polled, erase-polled, write-polled}
 use Rattle.plan.proofs.Written.{Learns, erase-learns, block-learns, block-is, white-surely, store-learns}

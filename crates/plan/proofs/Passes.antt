@@ -21,8 +21,8 @@ use Rattle.laws.proofs.Lists.{same-refl}
 use Rattle.verdict.specs.declared.Verdict.the-variants as verdict
 use Rattle.verdict.specs.Verdict.{endFails, pagesEnd}
 use Rattle.marks.specs.Area.{workBytes}
-use Rattle.cells.specs.Cells.{begun, Over, ended, overOf, suspect, lowestFrom, endNumber, endVerdict, overVerdict, verdictOf}
-use Rattle.cells.proofs.Lowest.{lowest-none}
+use Rattle.judgement.specs.Judgement.{begun, Over, ended, overOf, suspect, lowestFrom, endNumber, endVerdict, overVerdict, verdictOf}
+use Rattle.judgement.proofs.Lowest.{lowest-none}
 use Rattle.plan.specs.Plan.{pageAddress, padded, pageOf, getStatus, download, leaving, pagesFrom, planEvents, barred}
 use Rattle.plan.proofs.Requests.{resting, start-free, idle-free, over-on, leave-moves, manifest-moves, pointer-polled}
 use Rattle.plan.proofs.Written.{default-same}

@@ -15,8 +15,8 @@ use Rattle.line.specs.Event.{Event, fits, inBytes}
 use Rattle.text.specs.Text.{proper}
 use Rattle.laws.proofs.Lists.{bytes-append, bytes-take, bytes-drop}
 use Rattle.line.proofs.Formed.{fits-if}
-use Rattle.cells.proofs.Events.{Fitting}
-use Rattle.cells.proofs.Runs.{AllFit}
+use Rattle.judgement.proofs.Events.{Fitting}
+use Rattle.judgement.proofs.Runs.{AllFit}
 use Rattle.request.specs.Spelled.{two, four}
 use Rattle.plan.specs.Plan.{download, getStatus, polled, pageAddress, erasePage, setPointer, padded, pageOf, leaving, pagesFrom, planEvents}
 use Rattle.plan.proofs.Requests.{setupFor, download-setup}

@@ -34,7 +34,8 @@ use Rattle.action.specs.Action.{actionIn, actionOf, movedOf, rebootsOf}
 use Rattle.flash.specs.Flash.{stored}
 use Rattle.line.specs.Event.{Event}
 use Rattle.marks.specs.Marks.{blockFrom}
-use Rattle.cells.specs.Cells.{blockOf, surely, pageErased, worked, workedOf, goes, statusMoves, decisionMoves, requestMoves, moves, overOf}
+use Rattle.cells.specs.Cells.{blockOf, surely, pageErased, worked, workedOf, goes, statusMoves, decisionMoves, requestMoves, moves}
+use Rattle.judgement.specs.Judgement.{overOf}
 use Rattle.request.specs.Spelled.{two, four}
 use Rattle.plan.specs.Plan.{download, getStatus, polled, pageAddress, erasePage, setPointer}
 

@@ -17,7 +17,7 @@ use Rattle.marks.specs.Area.{workBytes}
 use Rattle.verdict.specs.Checked.{Checked}
 use Rattle.verdict.specs.Report.{inFields}
 use Rattle.verdict.proofs.Theorems.{one-verdict, checked-verdict}
-use Rattle.cells.proofs.Judgement.{judged}
+use Rattle.judgement.proofs.Judgement.{judged}
 use Rattle.plan.specs.Plan.{planEvents, planOf, barred, planable, planned}
 use Rattle.plan.proofs.Passes.{plan-verdict}
 use Rattle.plan.proofs.Proper.{plan-fits, plan-proper}

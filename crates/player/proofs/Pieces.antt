@@ -26,7 +26,7 @@ use Rattle.loader.specs.declared.Event.{Event}
 use Rattle.loader.specs.declared.Event.the-variants.{Attach, Request}
 use Rattle.loader.specs.Step.{stepOf, steps, admittedOf, sizesOf}
 use Rattle.packed.specs.Packed.{eventIn}
-use Rattle.verdict.specs.World.{steppedOf}
+use Rattle.loader.specs.World.{steppedOf}
 use Rattle.player.specs.Played.{playedOf}
 use Rattle.player.specs.Asked.{askedFor, waitsOf, askedOf}
 

@@ -5,7 +5,7 @@ use Rattle.board.specs.Layout.{loggerPages}
 use Rattle.device.specs.declared.Device.{Device}
 use Rattle.loader.specs.Answer.{Outcome}
 use Rattle.packed.specs.Packed.{eventIn}
-use Rattle.verdict.specs.World.{World, steppedOf}
+use Rattle.loader.specs.World.{World, steppedOf}
 
 -- the board with this device, memory, block buffer and reply buffer
 abbrev pub world : Device → List ℕ → List ℕ → List ℕ → World

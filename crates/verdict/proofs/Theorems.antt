@@ -19,7 +19,8 @@ use Rattle.refusal.proofs.Delivery.{delivery-injective}
 use Rattle.laws.proofs.Lists.{same-refl, same-eq}
 use Rattle.verdict.specs.declared.Verdict.{Verdict}
 use Rattle.verdict.specs.declared.Verdict.the-variants as verdict
-use Rattle.verdict.specs.World.{World, Fresh, after, failsAt}
+use Rattle.loader.specs.World.{World, after}
+use Rattle.verdict.specs.Boards.{Fresh, failsAt}
 use Rattle.verdict.specs.Verdict.{endFails, endFault, pagesEnd, wantedAt, wrongAt, OnSome, OnNone, Least, Judged}
 use Rattle.verdict.specs.Checked.{checkRefusals, checkable, Checked}
 use Rattle.verdict.specs.Report.{inFields, reportLine}

@@ -6,7 +6,8 @@ use Prim.Native.Nat.{ℕ, _≤_, _<_}
 use lib.ListN.{length, drop, getD}
 use Rattle.board.specs.Layout.{flashFirst, flashBytes, optionsFrom}
 use Rattle.line.specs.Event.{Event}
-use Rattle.verdict.specs.World.{World, Fresh, after, failsAt}
+use Rattle.loader.specs.World.{World, after}
+use Rattle.verdict.specs.Boards.{Fresh, failsAt}
 use Rattle.verdict.specs.Verdict.{isLeft, pagesEnd}
 
 -- the board w "runs it without a stall, a silence or an error status, and is then started from the first flash address with the

@@ -1,4 +1,4 @@
-pub mod World
+pub mod Boards
 pub mod Verdict
 pub mod Report
 pub mod Checked

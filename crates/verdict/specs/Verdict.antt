@@ -13,7 +13,8 @@ use Rattle.laws.specs.Lists.{same}
 use Rattle.line.specs.Event.{Event}
 use Rattle.verdict.specs.declared.Verdict.{Verdict}
 use Rattle.verdict.specs.declared.Verdict.the-variants as verdict
-use Rattle.verdict.specs.World.{World, Fresh, after, failsAt}
+use Rattle.loader.specs.World.{World, after}
+use Rattle.verdict.specs.Boards.{Fresh, failsAt}
 
 -- the mode Left, which no wire number tells from Rebooting
 abbrev pub isLeft : Mode → Bool

@@ -10,7 +10,7 @@ use Rattle.states.proofs.Form.{well-formed}
 use Rattle.loader.proofs.Form.{started-form}
 use Rattle.text.specs.Text.{eventsOf}
 use Rattle.marks.specs.Area.{workBytes}
-use Rattle.cells.specs.Cells.{overOf}
+use Rattle.judgement.specs.Judgement.{overOf}
 use Rattle.checker.specs.Walk.{Ahead}
 use Rattle.checker.proofs.Advancing.{run-fell, run-on, run-over}
 use borrow.Author.Needs.{needs}

@@ -1,7 +1,7 @@
 -- `checker::search` meets its contract. Assumes nothing.
 use native.Mathlib.Omega.{arith}
 use Rattle.checker.proofs.Walking.{lowest-found, lowest-on, lowest-end}
-use Rattle.cells.specs.Cells.{suspect, lowestFrom}
+use Rattle.judgement.specs.Judgement.{suspect, lowestFrom}
 use native.Mathlib.Nat.{sub-zero}
 use Prim.Native.Nat.{_-_}
 use mathlib.Core.Path.{_≡_, sym, _∙_}

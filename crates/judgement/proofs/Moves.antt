@@ -30,10 +30,10 @@ use Rattle.loader.specs.Inner.{countOf}
 use Rattle.loader.specs.Perform.{performedOf}
 use Rattle.loader.specs.Serve.{Run, run, runOf}
 use Rattle.loader.proofs.Bounds.{Fits, action-fits}
 use Rattle.cells.specs.Cells.{falls, goes, blockOf, workedOf, reports, statusMoves}
 use Rattle.cells.proofs.Likeness.{Alike}
 use Rattle.cells.proofs.Actions.{protection-same}
-use Rattle.cells.proofs.Performs.{performs-well, performs-ill}
+use Rattle.judgement.proofs.Performs.{performs-well, performs-ill}
 
 -- a pending write's bytes are in the board's block buffer and in the work area
 abbrev pub Held : ℕ → Pending → List ℕ → List ℕ → Type 0

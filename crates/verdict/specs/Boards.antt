@@ -1,28 +1,18 @@
--- Boards, and the run of a job's events on one. Document 01, "The checker and the plan"; the customer's third demand. Assumes nothing.
+-- Fresh boards, and the events that fail on one. Document 01, "The checker and the plan"; the customer's third demand. Assumes nothing.
 use mathlib.Core.Path.{_≡_}
 use mathlib.Core.Bool.{Bool, true, false, not, _&&_, _||_}
 use mathlib.Core.List.{List, [], _∷_}
 use Prim.Native.Nat.{ℕ, zero, suc}
 use lib.Dec.{eqb}
 use lib.ListN.{length, drop, getD}
+use Rattle.laws.specs.Lists.{allBytes}
 use Rattle.board.specs.Layout.{memoryBytes, optionsFrom}
-use Rattle.request.specs.declared.Request.{Request}
 use Rattle.request.specs.Request.{transferBytes, requestOf, isGetStatus}
 use Rattle.request.specs.Setup.{setupOf}
-use Rattle.device.specs.declared.Device.{Device}
 use Rattle.device.specs.State.{started}
-use Rattle.loader.specs.declared.Event.the-variants as event
-use Rattle.loader.specs.Answer.{replyTold, stallTold, silentTold, Outcome}
-use Rattle.loader.specs.Step.{stepOf}
-use Rattle.laws.specs.Lists.{allBytes}
 use Rattle.line.specs.Event.{Event, attach, request}
-
--- a board at some moment: the loader's state, and what it was lent
-pub record World : Type 0 where
-  pub device : Device
-  pub memory : List ℕ
-  pub block : List ℕ
-  pub reply : List ℕ
+use Rattle.loader.specs.Answer.{replyTold, stallTold, silentTold, Outcome}
+use Rattle.loader.specs.World.{World, worldOf, steppedOf}
 
 -- "every board of our layout with those option bytes, freshly attached, with any flash and RAM contents", whatever block and reply buffer hold
 pub record Fresh (n : ℕ) (card : List ℕ) (w : World) : Type 0 where
@@ -32,20 +22,6 @@ pub record Fresh (n : ℕ) (card : List ℕ) (w : World) : Type 0 where
   pub options : drop (optionsFrom n) (w .memory) ≡ card
   pub block : length (w .block) ≡ transferBytes
   pub reply : length (w .reply) ≡ transferBytes
-
--- an event on a board: the loader's step
-unfoldable pub steppedOf : ℕ → World → Event → Outcome
-steppedOf n w attach = stepOf n (w .device) event.Attach [] (w .memory) (w .block) (w .reply)
-steppedOf n w (request q) = stepOf n (w .device) event.Request q (w .memory) (w .block) (w .reply)
-
--- the board after a step
-abbrev pub worldOf : Outcome → World
-worldOf o = record { device = o .device; memory = o .memory; block = o .block; reply = o .reply }
-
--- the board after some events
-unfoldable pub after : ℕ → List Event → World → World
-after n [] w = w
-after n (e ∷ es) w = after n es (worldOf (steppedOf n w e))
 
 -- the event is a GETSTATUS
 abbrev pub asksStatus : Event → Bool

@@ -18,13 +18,15 @@ use Rattle.request.specs.Request.{transferBytes}
 use Rattle.device.specs.State.{started}
 use Rattle.laws.specs.Lists.{allBytes}
 use Rattle.laws.proofs.Lists.{bytes-append}
-use Rattle.verdict.specs.World.{World, Fresh}
+use Rattle.loader.specs.World.{World}
+use Rattle.verdict.specs.Boards.{Fresh}
 use Rattle.marks.specs.Area.{workBytes}
 use Rattle.marks.specs.Marks.{marked}
-use Rattle.cells.specs.Cells.{known, learnt, begun}
+use Rattle.cells.specs.Cells.{known, learnt}
+use Rattle.judgement.specs.Judgement.{begun}
 use Rattle.cells.proofs.Learnt.{learnt-length, learnt-known, learnt-value, learnt-known-outside}
 use Rattle.cells.proofs.Likeness.{Alike}
-use Rattle.cells.proofs.Events.{Stands}
+use Rattle.judgement.proofs.Events.{Stands}
 
 module _ (n : ℕ) (card w : List ℕ) (lw : length w ≡ workBytes n) (lc : length card ≡ optionBytes) where
   -- the work area with no mark set

@@ -4,7 +4,7 @@ use mathlib.Core.Bool.{Bool, false}
 use Prim.Native.Nat.{ℕ, zero, suc, _+_, _≤_, _<_}
 use native.Mathlib.Omega.{arith}
 use native.Mathlib.Nat.{add-zero}
-use Rattle.cells.specs.Cells.{lowestFrom}
+use Rattle.judgement.specs.Judgement.{lowestFrom}
 
 pub lowest-none : (test : ℕ → Bool) (count i : ℕ) → ((k : ℕ) → i ≤ k → k < i + count → test k ≡ false) → lowestFrom test count i ≡ i + count
 unfolding lowestFrom

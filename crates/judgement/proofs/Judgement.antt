@@ -17,14 +17,16 @@ use Rattle.loader.proofs.Form.{started-form}
 use Rattle.laws.specs.Lists.{same, allBytes}
 use Rattle.line.specs.Event.{Event}
 use Rattle.verdict.specs.declared.Verdict.the-variants as verdict
-use Rattle.verdict.specs.World.{World, Fresh, after, failsAt}
+use Rattle.loader.specs.World.{World, after}
+use Rattle.verdict.specs.Boards.{Fresh, failsAt}
 use Rattle.verdict.specs.Verdict.{endFails, endFault, pagesEnd, wantedAt, wrongAt, OnSome, OnNone, RunsClean, EndsWell, Judged}
 use Rattle.marks.specs.Area.{workBytes}
-use Rattle.cells.specs.Cells.{known, begun, Over, fell, ended, overOf, suspect, lowestFrom, flashVerdict, endNumber, endVerdict, verdictOf}
+use Rattle.cells.specs.Cells.{known}
+use Rattle.judgement.specs.Judgement.{begun, Over, fell, ended, overOf, suspect, lowestFrom, flashVerdict, endNumber, endVerdict, verdictOf}
 use Rattle.cells.proofs.Likeness.{cellOf}
-use Rattle.cells.proofs.Events.{Stands}
-use Rattle.cells.proofs.Runs.{AllFit, run-ends, run-before, run-falls, fell-above}
-use Rattle.cells.proofs.Boards.{fresh-stands, plain, plain-fresh, plain-byte}
+use Rattle.judgement.proofs.Events.{Stands}
+use Rattle.judgement.proofs.Runs.{AllFit, run-ends, run-before, run-falls, fell-above}
+use Rattle.judgement.proofs.Boards.{fresh-stands, plain, plain-fresh, plain-byte}
 
 -- the lowest number at which a test holds
 lowest-before : (test : ℕ → Bool) (count i : ℕ) → (j : ℕ) → i ≤ j → j < lowestFrom test count i → test j ≡ false

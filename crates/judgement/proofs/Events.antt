@@ -43,13 +43,14 @@ use Rattle.loader.specs.Serve.{runOf, statusBytes, statusOf, readAt, uploadedOf
 use Rattle.loader.specs.Step.{sizesOf, stepOf}
 use Rattle.loader.proofs.Admitted.{step-attaches, step-serves, admit-all, in-order-admitted}
 use Rattle.line.specs.Event.{Event, attach, request}
-use Rattle.verdict.specs.World.{World, worldOf, steppedOf, fails, asksStatus}
+use Rattle.loader.specs.World.{World, worldOf, steppedOf}
+use Rattle.verdict.specs.Boards.{fails, asksStatus}
 use Rattle.marks.specs.Marks.{blockFrom}
 use Rattle.cells.specs.Cells.{known, blockOf, falls, goes, readMoves, readsMoves, statusMoves, decisionMoves, requestMoves, moves}
 use Rattle.cells.proofs.Likeness.{Alike}
 use Rattle.cells.proofs.Learnt.{put-outside}
 use Rattle.cells.proofs.Actions.{protection-same}
-use Rattle.cells.proofs.Moves.{Held, goes-device, goes-work, falls-not, status-goes, status-falls}
+use Rattle.judgement.proofs.Moves.{Held, goes-device, goes-work, falls-not, status-goes, status-falls}
 
 -- a board that began with memory m₀ stands where the device d and the work area w say
 pub record Stands (n : ℕ) (m₀ : List ℕ) (x : World) (d : Device) (w : List ℕ) : Type 0 where

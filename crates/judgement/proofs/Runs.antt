@@ -10,10 +10,12 @@ use Rattle.board.specs.Layout.{optionsFrom}
 use Rattle.device.specs.declared.Device.{Device}
 use Rattle.states.proofs.Form.{Form}
 use Rattle.line.specs.Event.{Event}
-use Rattle.verdict.specs.World.{World, worldOf, steppedOf, after, fails, failsAt}
-use Rattle.cells.specs.Cells.{Moved, falls, goes, fell, ended, moves, overOf}
-use Rattle.cells.proofs.InForm.{moves-form}
-use Rattle.cells.proofs.Events.{Stands, Fitting, event-on, event-down}
+use Rattle.loader.specs.World.{World, worldOf, steppedOf, after}
+use Rattle.verdict.specs.Boards.{fails, failsAt}
+use Rattle.cells.specs.Cells.{Moved, falls, goes, moves}
+use Rattle.judgement.specs.Judgement.{fell, ended, overOf}
+use Rattle.judgement.proofs.InForm.{moves-form}
+use Rattle.judgement.proofs.Events.{Stands, Fitting, event-on, event-down}
 
 -- every event of the job has its data
 abbrev pub AllFit : List Event → Type 0

@@ -1,0 +1,8 @@
+pub mod Performs
+pub mod Moves
+pub mod Events
+pub mod InForm
+pub mod Runs
+pub mod Boards
+pub mod Judgement
+pub mod Lowest
