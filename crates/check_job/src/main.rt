@@ -1,7 +1,5 @@
 // Checks a job against an image and a card: one line on standard output says the verdict, and a sentence or two on
 // standard error say it to people, unless the call asks for the line alone.
-ghost use Prim.Native.Nat.{_≤_};
-ghost use lib.ListN.{length};
 use board::Board;
 use files::Got;
 use libc::STDERR_FILENO;
@@ -39,40 +37,9 @@ fn print(verdict: Verdict) {
     telling::line(STDOUT_FILENO, verdict);
 }
 
-// How the program goes about it: does it print the line alone, and has it refused for a file?
-struct Manner {
-    is_quiet: bool,
-    is_refused: bool,
-}
-
-// Refuses for a file, unless it has refused for one before.
-fn refuse(manner: Manner, got: Got, argument: usize, file: &[u8]) {
-    if manner.is_refused {
-        return;
-    }
-    print(Verdict::Refused(Refusal::File));
-    if !manner.is_quiet {
-        files::unreadable(got, argument, file);
-    }
-}
-
-// The same, once it has refused where the file was not read.
-fn after(manner: Manner, got: Got) -> Manner {
-    Manner {
-        is_refused: manner.is_refused | !got.is_read,
-        ..manner
-    }
-}
-
-// Reads a file, or refuses for it.
-fn load(argument: usize, file: &[u8], buffer: &mut [u8], manner: Manner) -> Got
-    ensures { λ r. ⌜ r .count ≤ length (now (buffer .exit)) ⌝ }
-{
-    let got = files::read(argument, file, buffer);
-    if !got.is_read {
-        refuse(manner, got, argument, file);
-    }
-    got
+// How much is said of the next file: nothing, once the program has refused for one.
+fn after(much: usize, got: Got) -> usize {
+    if got.is_read { much } else { telling::NOTHING }
 }
 
 fn judge(job: &[u8], image: &[u8], card: &[u8], is_quiet: bool) {
@@ -88,35 +55,48 @@ fn judge(job: &[u8], image: &[u8], card: &[u8], is_quiet: bool) {
 }
 
 // Reads the card.
-fn suit(job: &[u8], image: &[u8], manner: Manner) {
+fn suit(job: &[u8], image: &[u8], much: usize) {
     let mut card = [0u8; CARD_ROOM];
-    let got = load(3, b"card|card.bin|job, image and card", &mut card, manner);
-    if got.is_read && !manner.is_refused {
+    let got = telling::load(
+        STDOUT_FILENO,
+        much,
+        3,
+        b"card|card.bin|job, image and card",
+        &mut card,
+    );
+    if got.is_read && much != telling::NOTHING {
         let count = got.count;
-        judge(job, image, &card[0..count], manner.is_quiet);
+        judge(job, image, &card[0..count], much == telling::LINE);
     }
 }
 
 // Reads the image.
-fn hold(job: &[u8], manner: Manner) {
+fn hold(job: &[u8], much: usize) {
     let mut image = [0u8; IMAGE_ROOM];
-    let got = load(
+    let got = telling::load(
+        STDOUT_FILENO,
+        much,
         2,
         b"image|image.bin|job, image and card",
         &mut image,
-        manner,
     );
     let count = got.count;
-    suit(job, &image[0..count], after(manner, got));
+    suit(job, &image[0..count], after(much, got));
 }
 
 // Reads the job. All three files are asked for, whatever comes of one: a call without files then costs what a call
 // costs beside its work, and the figures take it off.
-fn check(manner: Manner) {
+fn check(much: usize) {
     let mut job = [0u8; JOB_ROOM];
-    let got = load(1, b"job|job.txt|job, image and card", &mut job, manner);
+    let got = telling::load(
+        STDOUT_FILENO,
+        much,
+        1,
+        b"job|job.txt|job, image and card",
+        &mut job,
+    );
     let count = got.count;
-    hold(&job[0..count], after(manner, got));
+    hold(&job[0..count], after(much, got));
 }
 
 // Is there one word behind the names, and is it `quiet`? A longer word has no room, and counts as one of no bytes.
@@ -126,24 +106,26 @@ fn is_quiet(count: usize) -> bool {
     count == NAMED + 1 && length == WORD && buffer::same_bytes(&word, b"quiet")
 }
 
-// How the program is called: 0 for three files or none, 1 for three files and the word, 2 for anything else.
-fn call(count: usize) -> usize {
+// How much the call asks for: words for three files or none, the line for three files and the word, nothing that can be
+// had for anything else.
+fn asked(count: usize) -> usize {
     if count < 2 {
-        return 0;
+        return telling::WORDS;
     }
     if count == NAMED {
-        return 0;
+        return telling::WORDS;
     }
-    if is_quiet(count) { 1 } else { 2 }
+    if is_quiet(count) {
+        telling::LINE
+    } else {
+        telling::NOTHING
+    }
 }
 
 fn main() {
-    let call = call(os::arg_count());
-    if call < 2 {
-        check(Manner {
-            is_quiet: call == 1,
-            is_refused: false,
-        });
+    let much = asked(os::arg_count());
+    if much != telling::NOTHING {
+        check(much);
         return;
     }
     print(Verdict::Refused(Refusal::File));

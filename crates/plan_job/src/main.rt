@@ -2,10 +2,8 @@
 // output. Arguments, if given, are the paths of the two files. A refusal goes to standard error.
 mod refuse;
 
-ghost use Prim.Native.Nat.{_≤_};
-ghost use lib.ListN.{length};
 use board::Board;
-use files::Got;
+use libc::STDERR_FILENO;
 use libc::STDOUT_FILENO;
 use refusal::Done;
 
@@ -30,21 +28,16 @@ fn perform(image: &[u8], card: &[u8]) {
     }
 }
 
-// Reads a file, or refuses for it.
-fn load(argument: usize, file: &[u8], buffer: &mut [u8]) -> Got
-    ensures { λ r. ⌜ r .count ≤ length (now (buffer .exit)) ⌝ }
-{
-    let got = files::read(argument, file, buffer);
-    if !got.is_read {
-        refuse::unreadable(got, argument, file);
-    }
-    got
-}
-
 // Reads the card of a board for an image.
 fn suit(image: &[u8]) {
     let mut card = [0u8; CARD_ROOM];
-    let got = load(2, b"card|card.bin|image and card", &mut card);
+    let got = telling::load(
+        STDERR_FILENO,
+        telling::WORDS,
+        2,
+        b"card|card.bin|image and card",
+        &mut card,
+    );
     if got.is_read {
         let count = got.count;
         perform(image, &card[0..count]);
@@ -54,7 +47,13 @@ fn suit(image: &[u8]) {
 // Reads the image.
 fn make() {
     let mut image = [0u8; IMAGE_ROOM];
-    let got = load(1, b"image|image.bin|image and card", &mut image);
+    let got = telling::load(
+        STDERR_FILENO,
+        telling::WORDS,
+        1,
+        b"image|image.bin|image and card",
+        &mut image,
+    );
     if got.is_read {
         let count = got.count;
         suit(&image[0..count]);

@@ -1,6 +1,5 @@
 // Refusals: the line that names one, and a sentence for people.
 use board::Board;
-use files::Got;
 use libc::STDERR_FILENO;
 use refusal::Refusal;
 use verdict::Verdict;
@@ -29,12 +28,6 @@ pub(crate) fn arguments() {
         0,
         0,
     );
-}
-
-// A file that is not readable.
-pub(crate) fn unreadable(got: Got, argument: usize, file: &[u8]) {
-    name(Refusal::File);
-    files::unreadable(got, argument, file);
 }
 
 fn image(size: usize) {

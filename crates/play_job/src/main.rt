@@ -7,9 +7,7 @@ mod event;
 mod play;
 mod refuse;
 
-ghost use Prim.Native.Nat.{_≤_};
-ghost use lib.ListN.{length};
-use files::Got;
+use libc::STDOUT_FILENO;
 use refusal::Done;
 use refusal::Refusal;
 
@@ -39,26 +37,27 @@ fn perform(text: &[u8], board: &[u8]) {
     }
 }
 
-// Reads a file, or refuses for it.
-fn load(argument: usize, file: &[u8], buffer: &mut [u8]) -> Got
-    ensures { λ r. ⌜ r .count ≤ length (now (buffer .exit)) ⌝ }
-{
-    let got = files::read(argument, file, buffer);
-    if !got.is_read {
-        refuse::unreadable(got, argument, file);
-    }
-    got
-}
-
 // Reads both files, the job first.
 fn load_and_play() {
     let mut text = [0u8; TEXT_ROOM];
     let mut board = [0u8; BOARD_ROOM];
-    let job = load(1, b"job|job.txt|job and board", &mut text);
+    let job = telling::load(
+        STDOUT_FILENO,
+        telling::WORDS,
+        1,
+        b"job|job.txt|job and board",
+        &mut text,
+    );
     if !job.is_read {
         return;
     }
-    let memory = load(2, b"board|board.bin|job and board", &mut board);
+    let memory = telling::load(
+        STDOUT_FILENO,
+        telling::WORDS,
+        2,
+        b"board|board.bin|job and board",
+        &mut board,
+    );
     if !memory.is_read {
         return;
     }

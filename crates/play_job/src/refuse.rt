@@ -1,5 +1,4 @@
 // Refusals: the line that names one, on standard output, and a sentence for people, on standard error.
-use files::Got;
 use libc::STDERR_FILENO;
 use libc::STDOUT_FILENO;
 use refusal::Refusal;
@@ -20,10 +19,4 @@ pub(crate) fn say(why: Refusal, template: &[u8]) {
     let count = sentence::fill(template, &[line, line], b"", &mut room, 0);
     name(why);
     files::write(STDERR_FILENO, &room, count);
-}
-
-// A file that is not readable.
-pub(crate) fn unreadable(got: Got, argument: usize, file: &[u8]) {
-    name(Refusal::File);
-    files::unreadable(got, argument, file);
 }

@@ -1,10 +1,20 @@
-// Telling a verdict: the line that it is printed by, and what it takes to explain it: the job's events, packed, where
-// only boards that live through them can tell why.
+// Telling a verdict: the line that it is printed by, a file that is read or refused, and what it takes to explain a
+// verdict: the job's events, packed, where only boards that live through them can tell why.
 ghost use mathlib.Core.Path.{_≡_};
 ghost use Rattle.refusal.specs.Delivery.{delivery};
+ghost use Rattle.files.specs.Came.{Came};
 ghost use Rattle.telling.specs.Gathered.{toldAtOnce, gatheredOf};
+use files::Got;
 use refusal::Done;
+use refusal::Refusal;
 use verdict::Verdict;
+
+// How much is said of a file that cannot be read: nothing, the line that refuses, or that line and a sentence.
+pub const NOTHING: usize = 0;
+
+pub const LINE: usize = 1;
+
+pub const WORDS: usize = 2;
 
 // A line has a word, a digit or two, and a number.
 const LINE_ROOM: usize = 64;
@@ -17,6 +27,27 @@ pub fn line(fd: i32, verdict: Verdict) {
         Done::Bytes(count) => files::write(fd, &line, count),
         Done::Refused(_) => {}
     }
+}
+
+// Refuses for a file: the line goes to `fd`, a sentence to standard error.
+fn refuse(fd: i32, much: usize, got: Got, argument: usize, file: &[u8]) {
+    if LINE <= much {
+        line(fd, Verdict::Refused(Refusal::File));
+    }
+    if WORDS <= much {
+        files::unreadable(got, argument, file);
+    }
+}
+
+// Reads a file, or refuses for it and says so much.
+pub fn load(fd: i32, much: usize, argument: usize, file: &[u8], buffer: &mut [u8]) -> Got
+    ensures { λ r. ⌜ Came r (now (buffer .entry)) (now (buffer .exit)) ⌝ }
+{
+    let got = files::read(argument, file, buffer);
+    if !got.is_read {
+        refuse(fd, much, got, argument, file);
+    }
+    got
 }
 
 // Is the verdict explained without a board?
