@@ -30,7 +30,7 @@ fn failed(line: usize, packed: &[u8], card: &[u8]) {
     let device = scene.device;
     let setup = asked.setup;
     let spelled = asked.pending;
-    event::explain(Failed {
+    event::fails(Failed {
         line,
         device,
         setup,
@@ -63,7 +63,7 @@ fn ended(condition: u8, packed: &[u8], card: &[u8]) {
         pointed: scene.pointed,
         left: scene.left,
     };
-    ends::explain(condition, stopped, found, cause.device);
+    ends::unmet(condition, stopped, found, cause.device);
 }
 
 // The byte that belongs into flash at an offset, in the pages of the image.
@@ -124,7 +124,7 @@ fn differs(offset: usize, packed: &[u8], image: &[u8], card: &[u8]) {
         is_locked: protection::write_protected(protection::word(card, 0), page),
         line: guard.changed,
     };
-    flash::explain(found, line, cause.device);
+    flash::wrong(found, line, cause.device);
 }
 
 // How many bytes of evidence there are.
@@ -143,7 +143,7 @@ pub fn explain(verdict: Verdict, evidence: Done, room: &[u8], image: &[u8], card
     let packed = &room[0..size(evidence, room.len())];
     match verdict {
         Verdict::Pass => refused::passed(image.len()),
-        Verdict::Refused(why) => refused::explain(why, image.len(), card.len()),
+        Verdict::Refused(why) => refused::refuses(why, image.len(), card.len()),
         Verdict::Event(line) => failed(line, packed, card),
         Verdict::End(condition) => ended(condition, packed, card),
         Verdict::Flash(offset) => differs(offset, packed, image, card),

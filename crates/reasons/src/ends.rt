@@ -1,9 +1,9 @@
 // Which condition at the job's end fails, and what to do.
+use crate::deed;
+use crate::place;
+use crate::say;
 use device::Device;
 use mode::Mode;
-use wording::deed;
-use wording::place;
-use wording::say;
 
 // The board after the job, how many lines it has, the last that set the pointer, and the one by which the loader leaves.
 pub struct Stopped {
@@ -91,7 +91,7 @@ fn changed(found: Altered, device: Device) {
 }
 
 // The condition that fails after the job; `before` is the board before the line that altered its options.
-pub fn explain(condition: u8, stopped: Stopped, found: Altered, before: Device) {
+pub fn unmet(condition: u8, stopped: Stopped, found: Altered, before: Device) {
     let device = stopped.device;
     let mode = device.mode;
     match condition {

@@ -1,4 +1,9 @@
 // Why an event fails, and what to do.
+use crate::deed;
+use crate::form;
+use crate::place;
+use crate::say;
+use action::Action;
 use board::Board;
 use board::Place;
 use device::Device;
@@ -6,10 +11,6 @@ use device::Pending;
 use mode::Mode;
 use request::Request;
 use request::Setup;
-use wording::deed;
-use wording::form;
-use wording::place;
-use wording::say;
 
 // An event that fails: its line, the board before it, its setup and the command that its data spells. Then, of that
 // board: the line by which the loader has left, the first byte of flash in the way of a write, and read protection.
@@ -50,27 +51,38 @@ fn untimely(request: Request, mode: Mode) -> usize {
     }
 }
 
-// A read or a write of a block.
-fn moved(pointer: u32, block: u16, count: u16, is_protected: bool) -> usize {
+// What is wrong with where a block lies.
+fn misplaced(pointer: u32, block: u16, count: u16) -> usize {
     let from = access::block_address(block, count, pointer);
     let place = Board::LOGGER.place(from, count as u64);
-    if is_protected {
-        return 4;
-    }
     match place {
-        Place::Flash(_) => if count < 2 { 7 } else { DIRTY },
-        Place::Ram(_) => 7,
-        Place::Options(_) => 5,
         Place::Outside => 6,
+        Place::Options(_) => 5,
+        _ => 7,
     }
 }
 
-// The command that a GETSTATUS runs.
-fn status(pointer: u32, pending: Pending, is_protected: bool) -> usize {
+// What is wrong with what a command aims at.
+fn aimed(pointer: u32, pending: Pending) -> usize {
     match pending {
         Pending::SetPointer(_) => 9,
-        Pending::Write { block, count } => moved(pointer, block, count, is_protected),
-        _ => if is_protected { 4 } else { 8 },
+        Pending::Write { block, count } => misplaced(pointer, block, count),
+        _ => 8,
+    }
+}
+
+// The command that a GETSTATUS runs, by what the loader means to do. A command that it does not refuse by then is a
+// write to flash.
+fn status(device: Device, is_protected: bool) -> usize {
+    let pending = device.pending;
+    let action = action::intend(Board::LOGGER, is_protected, device);
+    match action {
+        Action::Fail(status) => if status == Device::VENDOR {
+            4
+        } else {
+            aimed(device.pointer, pending)
+        },
+        _ => DIRTY,
     }
 }
 
@@ -78,18 +90,19 @@ fn upload(pointer: u32, setup: Setup, is_protected: bool) -> usize {
     if setup.value == 1 {
         return 2;
     }
-    moved(pointer, setup.value, setup.length, is_protected)
+    if is_protected {
+        return 4;
+    }
+    misplaced(pointer, setup.value, setup.length)
 }
 
 // A request that the mode takes.
 fn served(device: Device, setup: Setup, is_protected: bool) -> usize {
-    let pointer = device.pointer;
-    let pending = device.pending;
     let request = setup.request();
     match request {
         Request::Download => if setup.value == 1 { 2 } else { 3 },
-        Request::Upload => upload(pointer, setup, is_protected),
-        _ => status(pointer, pending, is_protected),
+        Request::Upload => upload(device.pointer, setup, is_protected),
+        _ => status(device, is_protected),
     }
 }
 
@@ -156,7 +169,7 @@ fn tell(reason: usize, left: usize, dirt: usize, mode: Mode, setup: Setup) {
 }
 
 // The line of the event, its request, and the reason.
-pub fn explain(failed: Failed) {
+pub fn fails(failed: Failed) {
     let device = failed.device;
     let mode = device.mode;
     let setup = failed.setup;

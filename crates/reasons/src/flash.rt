@@ -2,12 +2,12 @@
 //
 // Two boards tell what the job does to a byte: one had flash all zero, one had it erased. Where they agree after the
 // job, the job set the byte; where they do not, it left it as it was.
+use crate::deed;
+use crate::place;
+use crate::say;
 use board::Board;
 use device::Device;
 use device::Pending;
-use wording::deed;
-use wording::place;
-use wording::say;
 
 // A byte of flash after the job: on which side of the image's end it lies (0 in the image, 1 behind it in its last page,
 // 2 in a page that it does not reach), its value on either board, the one that it has to have, whether the card protects
@@ -76,7 +76,7 @@ fn done(found: Found, line: usize, device: Device) {
 }
 
 // The byte, and the line that did something to it, on this device.
-pub fn explain(found: Found, line: usize, device: Device) {
+pub fn wrong(found: Found, line: usize, device: Device) {
     say::text(b"The byte at ");
     place::flash(found.offset);
     say::tell(

@@ -9,19 +9,19 @@ const ROOM: usize = 512;
 // Room for the longest name.
 const NAME: usize = 64;
 
-pub fn text(text: &[u8]) {
+pub(crate) fn text(text: &[u8]) {
     files::write(STDERR_FILENO, text, text.len());
 }
 
 // A sentence, as the crate `sentence` reads a template.
-pub fn fill(template: &[u8], numbers: &[usize]) {
+pub(crate) fn fill(template: &[u8], numbers: &[usize]) {
     let mut room = [0u8; ROOM];
     let count = sentence::fill(template, numbers, b"", &mut room, 0);
     files::write(STDERR_FILENO, &room, count);
 }
 
 // One with up to four numbers.
-pub fn tell(template: &[u8], a: usize, b: usize, c: usize, d: usize) {
+pub(crate) fn tell(template: &[u8], a: usize, b: usize, c: usize, d: usize) {
     fill(template, &[a, b, c, d]);
 }
 
@@ -31,7 +31,7 @@ pub(crate) fn request(request: Request) {
     files::write(STDERR_FILENO, &room, count);
 }
 
-pub fn mode(mode: Mode) {
+pub(crate) fn mode(mode: Mode) {
     let mut room = [0u8; NAME];
     let count = words::mode(mode, &mut room, 0);
     files::write(STDERR_FILENO, &room, count);

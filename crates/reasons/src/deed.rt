@@ -138,14 +138,14 @@ fn tell(lead: usize, deed: Deed) {
 
 // The line that changed something, and what it ran on the device; `letter` is 0 for a capital one, at the front of a
 // sentence.
-pub fn ran(letter: usize, line: usize, device: Device) {
+pub(crate) fn ran(letter: usize, line: usize, device: Device) {
     let pending = device.pending;
     say::tell(b"[L|l]ine # of the job runs ", letter, line, 0, 0);
     tell(0, of(device.pointer, pending));
 }
 
 // A request to a device in this state; `spelled` is the command that its data spells.
-pub fn describe(device: Device, setup: Setup, spelled: Pending) {
+pub(crate) fn describe(device: Device, setup: Setup, spelled: Pending) {
     let request = setup.request();
     let deed = known(device, request, setup, spelled);
     say::request(form::named(setup));

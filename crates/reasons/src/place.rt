@@ -30,7 +30,7 @@ fn but_one(count: u16) -> usize
 }
 
 // So many bytes from an address on.
-pub fn span(from: u64, count: u16) {
+pub(crate) fn span(from: u64, count: u16) {
     let place = Board::LOGGER.place(from, count as u64);
     let first = (from % ADDRESSES) as usize;
     let last = first + but_one(count);
@@ -51,6 +51,6 @@ pub fn span(from: u64, count: u16) {
 }
 
 // The flash byte at an offset.
-pub fn flash(offset: usize) {
+pub(crate) fn flash(offset: usize) {
     span(Board::FLASH as u64 + offset as u64 % ADDRESSES, 1);
 }
