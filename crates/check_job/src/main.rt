@@ -27,16 +27,6 @@ const NAMED: usize = 4;
 // The bytes of the word.
 const WORD: usize = 5;
 
-// Words for people.
-fn say(words: &[u8]) {
-    files::write(STDERR_FILENO, words, words.len());
-}
-
-// Prints the verdict's line.
-fn print(verdict: Verdict) {
-    telling::line(STDOUT_FILENO, verdict);
-}
-
 // How much is said of the next file: nothing, once the program has refused for one.
 fn after(much: usize, got: Got) -> usize {
     if got.is_read { much } else { telling::NOTHING }
@@ -45,13 +35,13 @@ fn after(much: usize, got: Got) -> usize {
 fn judge(job: &[u8], image: &[u8], card: &[u8], is_quiet: bool) {
     let mut work = [0u8; WORK];
     let verdict = checker::check(job, image, card, &mut work);
-    print(verdict);
+    telling::line(STDOUT_FILENO, verdict);
     if is_quiet {
         return;
     }
     let gathered = telling::gather(verdict, job, &mut work);
     advice::explain(verdict, gathered, &work, image, card);
-    say(b"\n");
+    files::write(STDERR_FILENO, b"\n", 1);
 }
 
 // Reads the card.
@@ -128,8 +118,8 @@ fn main() {
         check(much);
         return;
     }
-    print(Verdict::Refused(Refusal::File));
-    say(
-        b"Name three files, the job, the image and the card, or none to take job.txt, image.bin and card.bin in this folder; behind three names, add the word quiet for the line alone.\n",
-    );
+    telling::line(STDOUT_FILENO, Verdict::Refused(Refusal::File));
+    let words =
+        b"Name three files, the job, the image and the card, or none to take job.txt, image.bin and card.bin in this folder; behind three names, add the word quiet for the line alone.\n";
+    files::write(STDERR_FILENO, words, words.len());
 }
