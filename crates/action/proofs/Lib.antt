@@ -1,1 +1,3 @@
 pub mod Denials
+pub mod Bounds
+pub mod Proper

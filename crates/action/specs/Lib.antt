@@ -1,1 +1,2 @@
 pub mod Action
+pub mod Reach

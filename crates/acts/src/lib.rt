@@ -8,7 +8,7 @@ ghost use Rattle.laws.specs.Bytes.{put};
 ghost use Rattle.board.specs.Layout.{pageBytes, flashBytes, ramFrom, ramBytes, memoryBytes};
 ghost use Rattle.protection.specs.Protection.{anyProtected};
 ghost use Rattle.request.specs.Request.{transferBytes};
-ghost use Rattle.loader.specs.Inner.{endOf, countOf};
+ghost use Rattle.action.specs.Reach.{endOf, countOf};
 ghost use Rattle.flash.specs.Flash.{each, stored};
 ghost use Rattle.memory.specs.Whole.{unprotected};
 ghost use Rattle.marks.specs.Area.{workBytes};

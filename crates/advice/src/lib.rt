@@ -1,4 +1,4 @@
-// A verdict in words, on standard error: the board that shows it lives through the job, and tells why it is so.
+// A verdict in words, on standard error. Where it is about what a job does, boards live through the job to tell why.
 ghost use Prim.Native.Nat.{_≤_};
 use board::Board;
 use device::Device;

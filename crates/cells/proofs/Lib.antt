@@ -1,3 +1,4 @@
 pub mod Learnt
 pub mod Likeness
 pub mod Actions
+pub mod InForm

@@ -1,6 +1,6 @@
--- A device of the proof, which the promise of no call that a customer makes names: what is known of every board at once. The work area holds a value
--- and a mark for each byte of memory, and a block. A mark of 1 says that every board holds that value; a byte without it is
--- the board's own, as it was at the start. Assumes nothing.
+-- A device of the proof, which the promise of no call that a customer makes names: what is known of every board at once.
+-- The work area holds a value and a mark for each byte of memory, and a block. A mark of 1 says that every board holds
+-- that value; a byte without it is the board's own, as it was at the start. Assumes nothing.
 use mathlib.Core.Bool.{Bool, cond, _&&_}
 use mathlib.Core.List.{List}
 use Prim.Native.Nat.{ℕ, zero, suc, _+_, _*_}

@@ -96,8 +96,8 @@ fn is_quiet(count: usize) -> bool {
     count == NAMED + 1 && length == WORD && buffer::same_bytes(&word, b"quiet")
 }
 
-// How much the call asks for: words for three files or none, the line for three files and the word, nothing that can be
-// had for anything else.
+// How much the call asks for: words, where it names three files or none; the line, where it names three and adds the
+// word; nothing, where it is no call that the program knows.
 fn asked(count: usize) -> usize {
     if count < 2 {
         return telling::WORDS;

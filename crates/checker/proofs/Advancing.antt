@@ -16,7 +16,7 @@ use Rattle.text.specs.Text.{eventsOf}
 use Rattle.text.proofs.WalkEvents.{Beyond, Requested, events-end}
 use Rattle.cells.specs.Cells.{falls, goes, requestMoves, moves}
 use Rattle.judgement.specs.Judgement.{Over, fell, ended, overOf}
-use Rattle.judgement.proofs.InForm.{moves-form}
+use Rattle.cells.proofs.InForm.{moves-form}
 use Rattle.area.specs.declared.Step.{Step}
 use Rattle.checker.specs.declared.Onward.{Onward}
 use Rattle.checker.specs.Walk.{Further, Advanced}

@@ -1,7 +1,8 @@
 -- What a decision asks of the buffers is within them. Assumes nothing.
+use mathlib.Core.Path.{_≡_}
+use mathlib.Core.Bool.{true}
 use Prim.Native.Nat.{_≤_}
 use lib.Dec.{T}
-use mathlib.Core.Bool.{true}
 use Rattle.request.specs.declared.Setup.{Setup}
 use Rattle.request.specs.Request.{transferBytes}
 use Rattle.device.specs.declared.Device.{Device}
@@ -40,3 +41,7 @@ decide-bounded d s k =
       state = λ t. tt;
       status = λ t. tt;
     })
+
+-- the same of a decision that was made, and is x
+pub decided-bounded : (d : Device) (setup : Setup) (command : Command) (decision x : Decision) → decision ≡ decideOf d setup command → decision ≡ x → Bounded setup x
+decided-bounded d setup command decision x e t = rw (← t, e) (decide-bounded d setup command)

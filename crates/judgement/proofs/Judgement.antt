@@ -13,7 +13,7 @@ use Rattle.laws.proofs.Split.{by-bool, by-lt, by-eq, and-true}
 use Rattle.board.specs.Layout.{flashBytes, optionsFrom, optionBytes, memoryBytes}
 use Rattle.device.specs.declared.Device.{Device}
 use Rattle.device.specs.State.{started}
-use Rattle.loader.proofs.Form.{started-form}
+use Rattle.states.proofs.Form.{started-form}
 use Rattle.laws.specs.Lists.{same, allBytes}
 use Rattle.line.specs.Event.{Event}
 use Rattle.verdict.specs.declared.Verdict.the-variants as verdict

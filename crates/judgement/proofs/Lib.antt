@@ -1,7 +1,6 @@
 pub mod Performs
 pub mod Moves
 pub mod Events
-pub mod InForm
 pub mod Runs
 pub mod Boards
 pub mod Judgement

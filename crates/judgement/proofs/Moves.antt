@@ -26,10 +26,10 @@ use Rattle.access.specs.declared.Access.{Access}
 use Rattle.access.specs.declared.Access.the-variants.{Denied, InFlash, InRam, InOptions}
 use Rattle.access.specs.Access.{blockAccess}
 use Rattle.action.specs.Action.{storeAt, eraseAt, actionIn, actionOf, ranOf}
-use Rattle.loader.specs.Inner.{countOf}
+use Rattle.action.specs.Reach.{countOf}
 use Rattle.loader.specs.Perform.{performedOf}
 use Rattle.loader.specs.Serve.{Run, run, runOf}
-use Rattle.loader.proofs.Bounds.{Fits, action-fits}
+use Rattle.action.proofs.Bounds.{Fits, action-fits}
 use Rattle.cells.specs.Cells.{falls, goes, blockOf, workedOf, reports, statusMoves}
 use Rattle.cells.proofs.Likeness.{Alike}
 use Rattle.cells.proofs.Actions.{protection-same}

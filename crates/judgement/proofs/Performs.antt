@@ -15,9 +15,9 @@ use Rattle.request.specs.Request.{transferBytes}
 use Rattle.action.specs.declared.Action.{Action}
 use Rattle.action.specs.declared.Action.the-variants.{Rest, Fail, Point, Erase, EraseAll, Unprotect, ClearRam, StoreFlash, StoreRam, StoreOptions}
 use Rattle.flash.specs.Flash.{blank}
-use Rattle.loader.specs.Inner.{countOf}
+use Rattle.action.specs.Reach.{countOf}
 use Rattle.loader.specs.Perform.{performedOf}
-use Rattle.loader.proofs.Bounds.{Fits}
+use Rattle.action.proofs.Bounds.{Fits}
 use Rattle.marks.specs.Marks.{blockFrom}
 use Rattle.cells.specs.Cells.{learnt, surely, blockOf, writes, workedOf}
 use Rattle.cells.proofs.Likeness.{Alike, learnt-alike}

@@ -14,7 +14,7 @@ use Rattle.loader.specs.World.{World, worldOf, steppedOf, after}
 use Rattle.verdict.specs.Boards.{fails, failsAt}
 use Rattle.cells.specs.Cells.{Moved, falls, goes, moves}
 use Rattle.judgement.specs.Judgement.{fell, ended, overOf}
-use Rattle.judgement.proofs.InForm.{moves-form}
+use Rattle.cells.proofs.InForm.{moves-form}
 use Rattle.judgement.proofs.Events.{Stands, Fitting, event-on, event-down}
 
 -- every event of the job has its data

@@ -1,5 +1,5 @@
--- A device of the proof, which the promise of no call that a customer makes names: a job on the work area, and the verdict that is read off it.
--- Assumes nothing.
+-- A device of the proof, which the promise of no call that a customer makes names: a job on the work area, and the
+-- verdict that is read off it. Assumes nothing.
 use mathlib.Core.Bool.{Bool, cond, not, _&&_}
 use mathlib.Core.List.{List, [], _∷_}
 use Prim.Native.Nat.{ℕ, zero, suc}

@@ -21,7 +21,7 @@ use Rattle.device.specs.declared.Device.{Device}
 use Rattle.mode.specs.Wire.{isMode}
 use Rattle.device.specs.State.{started}
 use Rattle.states.specs.WellFormed.{inRegion, statusFits}
-use Rattle.states.proofs.Form.{Form, Sane, Calm, stalled-form, entered-form, after-status-form}
+use Rattle.states.proofs.Form.{Form, Sane, Calm, started-form, stalled-form, entered-form, after-status-form}
 use Rattle.decision.specs.declared.Decision.{Decision}
 use Rattle.decision.specs.declared.Decision.the-variants as decided
 use Rattle.command.specs.Command.{commandOf}
@@ -33,6 +33,7 @@ use Rattle.action.specs.declared.Action.{Action}
 use Rattle.action.specs.declared.Action.the-variants.{Rest, Fail, Point, Erase, EraseAll, Unprotect, ClearRam, StoreFlash, StoreRam, StoreOptions}
 use Rattle.access.specs.Access.{blockAccess}
 use Rattle.action.proofs.Denials.{Refusing, block-refusing}
+use Rattle.action.proofs.Proper.{Proper, action-proper, went-well}
 use Rattle.action.specs.Action.{pointOf, eraseAt, storeAt, actionIn, actionOf, movedOf, ranOf}
 use Rattle.flash.specs.Flash.{blank}
 use Rattle.loader.specs.declared.Event.{Event}
@@ -43,64 +44,21 @@ use Rattle.loader.specs.Perform.{performedOf}
 use Rattle.loader.specs.Serve.{runOf, statusOf, readAt, uploadedOf, actedOf, serveOf}
 use Rattle.loader.specs.Step.{sizesOf, admittedOf, steps, stepOf}
 
--- an action whose own status is one of the error mode's, and whose pointer lies in a region
-abbrev pub Proper : ℕ → Action → Type 0
-Proper n Rest = T true
-Proper n (Fail status) = statusFits Error status ≡ true
-Proper n (Point address) = inRegion n address ≡ true
-Proper n (Erase page) = T true
-Proper n EraseAll = T true
-Proper n Unprotect = T true
-Proper n ClearRam = T true
-Proper n (StoreFlash at count) = T true
-Proper n (StoreRam at count) = T true
-Proper n (StoreOptions at count) = T true
-
-store-proper : (n count : ℕ) (access : Access) → Refusing access → Proper n (storeAt access count)
-store-proper n count (Denied status) r = r
-store-proper n count (InFlash at) r = tt
-store-proper n count (InRam at) r = tt
-store-proper n count (InOptions at) r = tt
-
-point-proper : (n address : ℕ) → Proper n (pointOf n address)
-point-proper n address = by-bool (inRegion n address) (λ e. rw e e) (λ e. rw e refl)
-
-erase-at-proper : (n : ℕ) (place : Place) → Proper n (eraseAt place)
-erase-at-proper n (Flash at) = tt
-erase-at-proper n (Ram at) = refl
-erase-at-proper n (Options at) = refl
-erase-at-proper n Outside = refl
-
-pub action-proper : (n : ℕ) (protected : Bool) (pointer : ℕ) (pending : Pending) → Proper n (actionIn pending n protected pointer)
-action-proper n protected pointer Nothing = tt
-action-proper n protected pointer (SetPointer address) = point-proper n address
-action-proper n true pointer (ErasePage address) = refl
-action-proper n false pointer (ErasePage address) = erase-at-proper n (placeOf n address 1)
-action-proper n true pointer MassErase = refl
-action-proper n false pointer MassErase = tt
-action-proper n true pointer ReadUnprotect = tt
-action-proper n false pointer ReadUnprotect = tt
-action-proper n protected pointer (Write block count) =
-    store-proper n count (blockAccess n protected block count pointer) (block-refusing n protected block count pointer)
-
 -- what running an action comes to
 module _ (n pointer : ℕ) (b m : List ℕ) (p : inRegion n pointer ≡ true) where
-  pub went-well : (action : Action) → inRegion n (movedOf action pointer) ≡ true → Sane n (ranOf action pointer 0)
-  went-well action h = record { well = λ e. h; ill = λ e. absurd (true≢false e) }
-
   performed-sane : (action : Action) → Proper n action → Sane n (ranOf action pointer (performedOf n action b m .status))
-  performed-sane Rest h = went-well Rest p
+  performed-sane Rest h = went-well n pointer Rest p
   performed-sane (Fail status) h = record { well = λ e. p; ill = λ e. h }
-  performed-sane (Point address) h = went-well (Point address) h
-  performed-sane (Erase page) h = went-well (Erase page) p
-  performed-sane EraseAll h = went-well EraseAll p
-  performed-sane Unprotect h = went-well Unprotect p
-  performed-sane ClearRam h = went-well ClearRam p
+  performed-sane (Point address) h = went-well n pointer (Point address) h
+  performed-sane (Erase page) h = went-well n pointer (Erase page) p
+  performed-sane EraseAll h = went-well n pointer EraseAll p
+  performed-sane Unprotect h = went-well n pointer Unprotect p
+  performed-sane ClearRam h = went-well n pointer ClearRam p
   performed-sane (StoreFlash at count) h =
-      by-bool (blank (wordOf n m) at (length (take count b)) m) (λ e. rw e (went-well (StoreFlash at count) p))
+      by-bool (blank (wordOf n m) at (length (take count b)) m) (λ e. rw e (went-well n pointer (StoreFlash at count) p))
       (λ e. rw e (record { well = λ z. p; ill = λ z. refl }))
-  performed-sane (StoreRam at count) h = went-well (StoreRam at count) p
-  performed-sane (StoreOptions at count) h = went-well (StoreOptions at count) p
+  performed-sane (StoreRam at count) h = went-well n pointer (StoreRam at count) p
+  performed-sane (StoreOptions at count) h = went-well n pointer (StoreOptions at count) p
 
 module _ (n : ℕ) (d : Device) (m b y : List ℕ) (f : Form n d) where
   run-sane : Sane n (runOf n d b m .ran)
@@ -136,13 +94,6 @@ module _ (n : ℕ) (d : Device) (m b y : List ℕ) (f : Form n d) where
   serve-form : (q : List ℕ) → Form n (serveOf n d q m b y .device)
   unfolding serveOf
   serve-form q = acted-form (decideOf d (setupOf q) (commandOf (drop 8 q))) q (decide-formed n d f (setupOf q) (commandOf (drop 8 q)))
-
--- the first flash address lies in a region, where there is a page
-pub started-form : (n : ℕ) → 1 ≤ n → Form n started
-unfolding inRegion placeOf spans
-started-form n h =
-    let room : 1 ≤ flashBytes n = omega arith in
-    record { pointer = rw (le-leb 1 (flashBytes n) room); pending = refl; status = refl }
 
 pub step-form : (n : ℕ) (d : Device) (e : Event) (q m b y : List ℕ) → 1 ≤ n → Form n d → Form n (stepOf n d e q m b y .device)
 unfolding stepOf

@@ -1,4 +1,3 @@
-pub mod Bounds
 pub mod Requests
 pub mod Admitted
 pub mod Outcomes

@@ -22,7 +22,6 @@ use Rattle.decision.specs.declared.Decision.{Decision}
 use Rattle.decision.specs.declared.Decision.the-variants.{Read}
 use Rattle.command.specs.Command.{commandOf}
 use Rattle.decision.specs.Decide.{decideOf}
-use Rattle.decision.proofs.Bounds.{Bounded, decide-bounded}
 use Rattle.access.specs.declared.Access.{Access}
 use Rattle.action.specs.declared.Action.{Action}
 use Rattle.access.specs.Access.{blockAccess}
@@ -67,12 +66,13 @@ pub serve-reads : (n : ℕ) (d : Device) (q m b y : List ℕ) (setup : Setup) (c
 serve-reads n d q m b y setup command decision s k e t =
     ap (λ (x : Setup). uploadedOf n d x m b y) s ∙ serve-is n d q m b y setup command decision Read s k e t
 
-pub decided-bounded : (d : Device) (setup : Setup) (command : Command) (decision x : Decision) → decision ≡ decideOf d setup command → decision ≡ x → Bounded setup x
-decided-bounded d setup command decision x e t = rw (← t, e) (decide-bounded d setup command)
-
 -- the data stage is no longer than what the setup allows
 pub stage-short : (q : List ℕ) (setup : Setup) → setup ≡ setupOf q → fitsOf q ≡ true → setup .length ≤ transferBytes → 0 + length (take (length q - 8) (drop 8 q)) ≤ transferBytes
 stage-short q setup s f h =
     let data-most : dataLength setup ≤ setup .length = data-at-most setup in
     let all : length q ≡ 8 + dataLength setup = fits-data q f ∙ rw (← s) in
     omega (arith, take-at-most (length q - 8) (drop 8 q))
+
+-- the front of a block, laid where its count fits
+pub front-ends : (at count limit : ℕ) (b m : List ℕ) → length m ≡ limit → at + count ≤ limit → at + length (take (count - 0) b) ≤ length m
+front-ends at count limit b m e h = omega (arith, take-at-most (count - 0) b)

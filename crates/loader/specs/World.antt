@@ -1,4 +1,4 @@
--- A board, and events on it one after the other: what one board lives through. Document 01, "Events"; the customer's third demand. Assumes nothing.
+-- A board, and events on it one after the other. Document 01, "Events"; the customer's third demand. Assumes nothing.
 use mathlib.Core.List.{List, [], _∷_}
 use Prim.Native.Nat.{ℕ}
 use Rattle.device.specs.declared.Device.{Device}

@@ -5,7 +5,8 @@ use crate::say;
 use device::Device;
 use mode::Mode;
 
-// The board after the job, how many lines it has, the last that set the pointer, and the one by which the loader leaves.
+// The board after the job; how many lines the job has, the last of them that set the pointer, and the one by which the
+// loader leaves.
 pub struct Stopped {
     pub device: Device,
     pub count: usize,

@@ -9,9 +9,9 @@ use board::Board;
 use device::Device;
 use device::Pending;
 
-// A byte of flash after the job: on which side of the image's end it lies (0 in the image, 1 behind it in its last page,
-// 2 in a page that it does not reach), its value on either board, the one that it has to have, whether the card protects
-// its page, and the last line that changed the option byte of its page.
+// A byte of flash after the job: its offset, and the side that it lies on (0 in the image, 1 behind it in its last
+// page, 2 in a page that the image does not reach); its value on either board, the one that it has to have, whether the
+// card protects its page, and the last line that changed the option byte of its page.
 pub struct Found {
     pub offset: usize,
     pub side: usize,

@@ -1,10 +1,13 @@
 -- Each way from one state to the next keeps it well formed. Assumes nothing.
 use mathlib.Core.Path.{_≡_, refl, _∙_, sym}
 use mathlib.Core.Bool.{true, false, _&&_, false≢true}
-use Prim.Native.Nat.{ℕ}
+use Prim.Native.Nat.{ℕ, _≤_}
+use native.Mathlib.Omega.{arith}
 use lib.Dec.{eqb}
-use borrow.Author.Tests.{eqb-true}
+use borrow.Author.Tests.{eqb-true, le-leb}
 use Rattle.laws.proofs.Split.{by-bool, and-true}
+use Rattle.board.specs.Layout.{flashBytes}
+use Rattle.board.specs.Span.{spans, placeOf}
 use Rattle.request.specs.declared.Request.the-variants.{Download, Upload}
 use Rattle.mode.specs.declared.Mode.{Mode}
 use Rattle.mode.specs.declared.Mode.the-variants.{Idle, DownloadSync, DownloadBusy, DownloadIdle, ManifestSync, UploadIdle, Error, Left, Rebooting}
@@ -14,7 +17,7 @@ use Rattle.device.specs.declared.Device.{Device}
 use Rattle.device.specs.declared.Ran.{Ran}
 use Rattle.mode.specs.Wire.{wireOf, isMode}
 use Rattle.mode.specs.Table.{allowedOf}
-use Rattle.device.specs.State.{idled, failed, stalled, entered, finished, afterStatus}
+use Rattle.device.specs.State.{started, idled, failed, stalled, entered, finished, afterStatus}
 use Rattle.states.specs.WellFormed.{inRegion, writeFits, pendingFits, statusFits, wellFormed}
 
 -- well-formedness, by its parts
@@ -148,3 +151,10 @@ after-status-none n d ran f =
     let none : d .pending ≡ Nothing = none-pending (d .mode) (d .pending) a (f .pending) in
     by-bool (isMode 4 (d .mode)) (λ b. rw (a, b) none)
     (λ b. by-bool (isMode 6 (d .mode)) (λ c. rw (a, b, c) none) (λ c. rw (a, b, c) none)))
+
+-- the first flash address lies in a region, where there is a page
+pub started-form : (n : ℕ) → 1 ≤ n → Form n started
+unfolding inRegion placeOf spans
+started-form n h =
+    let room : 1 ≤ flashBytes n = omega arith in
+    record { pointer = rw (le-leb 1 (flashBytes n) room); pending = refl; status = refl }

@@ -39,7 +39,7 @@ fn refuse(fd: i32, much: usize, got: Got, argument: usize, file: &[u8]) {
     }
 }
 
-// Reads a file, or refuses for it and says so much.
+// Reads a file, or refuses for it and says as much as is asked for.
 pub fn load(fd: i32, much: usize, argument: usize, file: &[u8], buffer: &mut [u8]) -> Got
     ensures { λ r. ⌜ Came r (now (buffer .entry)) (now (buffer .exit)) ⌝ }
 {

@@ -1,4 +1,5 @@
--- Fresh boards, and the events that fail on one. Document 01, "The checker and the plan"; the customer's third demand. Assumes nothing.
+-- Fresh boards, and the events that fail on one. Document 01, "The checker and the plan"; the customer's third demand.
+-- Assumes nothing.
 use mathlib.Core.Path.{_≡_}
 use mathlib.Core.Bool.{Bool, true, false, not, _&&_, _||_}
 use mathlib.Core.List.{List, [], _∷_}
@@ -14,7 +15,8 @@ use Rattle.line.specs.Event.{Event, attach, request}
 use Rattle.loader.specs.Answer.{replyTold, stallTold, silentTold, Outcome}
 use Rattle.loader.specs.World.{World, worldOf, steppedOf}
 
--- "every board of our layout with those option bytes, freshly attached, with any flash and RAM contents", whatever block and reply buffer hold
+-- "every board of our layout with those option bytes, freshly attached, with any flash and RAM contents", whatever block
+-- and reply buffer hold
 pub record Fresh (n : ℕ) (card : List ℕ) (w : World) : Type 0 where
   pub device : w .device ≡ started
   pub memory : length (w .memory) ≡ memoryBytes n

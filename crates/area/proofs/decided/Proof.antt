@@ -1,6 +1,6 @@
 -- `area::decided` meets its contract. Assumes nothing.
 use Rattle.area.proofs.Answers.{request-moves}
-use Rattle.loader.proofs.Requests.{decided-bounded}
+use Rattle.decision.proofs.Bounds.{decided-bounded}
 use Rattle.request.proofs.Lengths.{data-at-most}
 use native.Mathlib.Omega.{arith}
 use mathlib.Core.Path.{ap, _∙_, sym}

@@ -1,6 +1,6 @@
 -- `area::status` meets its contract. Assumes nothing.
 use Rattle.area.proofs.Answers.{status-rests, status-runs}
-use Rattle.loader.proofs.Bounds.{action-fits}
+use Rattle.action.proofs.Bounds.{action-fits}
 use mathlib.Core.Path.{_∙_, sym}
 use borrow.Author.Needs.{needs}
 use Rattle.area.proofs.status.Statement.{statement}

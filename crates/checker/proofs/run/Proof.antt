@@ -7,7 +7,7 @@ use lib.ListN.{length, drop}
 use Rattle.device.specs.State.{started}
 use Rattle.states.specs.WellFormed.{wellFormed}
 use Rattle.states.proofs.Form.{well-formed}
-use Rattle.loader.proofs.Form.{started-form}
+use Rattle.states.proofs.Form.{started-form}
 use Rattle.text.specs.Text.{eventsOf}
 use Rattle.marks.specs.Area.{workBytes}
 use Rattle.judgement.specs.Judgement.{overOf}

@@ -1,5 +1,5 @@
 -- `loader::perform` meets its contract. Assumes nothing.
-use Rattle.loader.proofs.Bounds.{front-ends}
+use Rattle.loader.proofs.Requests.{front-ends}
 use native.Mathlib.Nat.{sub-zero}
 use native.Mathlib.Omega.{arith}
 use mathlib.Core.Path.{_∙_}

@@ -1,6 +1,6 @@
 -- `loader::run` meets its contract. Assumes nothing.
 use Rattle.loader.proofs.Requests.{run-rests, run-performs}
-use Rattle.loader.proofs.Bounds.{action-fits}
+use Rattle.action.proofs.Bounds.{action-fits}
 use borrow.Author.Tests.{not-true, not-false}
 use native.Mathlib.Omega.{arith}
 use mathlib.Core.Path.{_∙_, sym}

@@ -1,5 +1,6 @@
 -- `loader::serve` meets its contract. Assumes nothing.
-use Rattle.loader.proofs.Requests.{serve-is, serve-reads, decided-bounded, stage-short}
+use Rattle.loader.proofs.Requests.{serve-is, serve-reads, stage-short}
+use Rattle.decision.proofs.Bounds.{decided-bounded}
 use Rattle.loader.specs.Serve.{actedOf, serveOf}
 use Rattle.decision.specs.declared.Decision.{Decision}
 use Rattle.request.proofs.Lengths.{fits-eight}

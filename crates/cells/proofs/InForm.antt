@@ -1,6 +1,6 @@
 -- An event on every board leads from a well-formed state to one. Assumes nothing.
 use mathlib.Core.Path.{_≡_, refl}
-use mathlib.Core.Bool.{true, false, true≢false}
+use mathlib.Core.Bool.{true, true≢false}
 use mathlib.Core.List.{List}
 use Prim.Native.Nat.{ℕ, _≤_}
 use lib.Dec.{T, eqb}
@@ -15,7 +15,7 @@ use Rattle.device.specs.declared.Ran.{Ran}
 use Rattle.mode.specs.Wire.{isMode}
 use Rattle.device.specs.State.{reportOf, nothingRan}
 use Rattle.states.specs.WellFormed.{inRegion}
-use Rattle.states.proofs.Form.{Form, Sane, Calm, entered-form, after-status-form}
+use Rattle.states.proofs.Form.{Form, Sane, Calm, started-form, entered-form, after-status-form}
 use Rattle.decision.specs.declared.Decision.{Decision}
 use Rattle.decision.specs.declared.Decision.the-variants as decided
 use Rattle.command.specs.Command.{commandOf}
@@ -27,9 +27,9 @@ use Rattle.action.specs.declared.Action.{Action}
 use Rattle.action.specs.declared.Action.the-variants.{Rest, Fail, Point, Erase, EraseAll, Unprotect, ClearRam, StoreFlash, StoreRam, StoreOptions}
 use Rattle.access.specs.Access.{blockAccess}
 use Rattle.action.specs.Action.{actionIn, actionOf, ranOf}
-use Rattle.loader.proofs.Form.{Proper, action-proper, went-well, started-form}
+use Rattle.action.proofs.Proper.{Proper, action-proper, went-well}
 use Rattle.line.specs.Event.{Event, attach, request}
 use Rattle.cells.specs.Cells.{surely, workedOf, Moved, falls, goes, reports, statusMoves, readMoves, readsMoves, decisionMoves, requestMoves, moves}
 
 -- where all boards go on, their device is well formed
 abbrev InForm : ℕ → Moved → Type 0
@@ -38,18 +38,18 @@ InForm n (goes d w) = Form n d
 
 module _ (n pointer : ℕ) (w : List ℕ) (p : inRegion n pointer ≡ true) where
   worked-sane : (action : Action) → Proper n action → Sane n (ranOf action pointer (workedOf n action w .status))
-  worked-sane Rest h = went-well n pointer w w p Rest p
+  worked-sane Rest h = went-well n pointer Rest p
   worked-sane (Fail status) h = record { well = λ e. p; ill = λ e. h }
-  worked-sane (Point address) h = went-well n pointer w w p (Point address) h
-  worked-sane (Erase page) h = went-well n pointer w w p (Erase page) p
-  worked-sane EraseAll h = went-well n pointer w w p EraseAll p
-  worked-sane Unprotect h = went-well n pointer w w p Unprotect p
-  worked-sane ClearRam h = went-well n pointer w w p ClearRam p
+  worked-sane (Point address) h = went-well n pointer (Point address) h
+  worked-sane (Erase page) h = went-well n pointer (Erase page) p
+  worked-sane EraseAll h = went-well n pointer EraseAll p
+  worked-sane Unprotect h = went-well n pointer Unprotect p
+  worked-sane ClearRam h = went-well n pointer ClearRam p
   worked-sane (StoreFlash at count) h =
-      by-bool (surely n (wordOf n w) at count w) (λ e. rw e (went-well n pointer w w p (StoreFlash at count) p))
+      by-bool (surely n (wordOf n w) at count w) (λ e. rw e (went-well n pointer (StoreFlash at count) p))
       (λ e. rw e (record { well = λ z. p; ill = λ z. refl }))
-  worked-sane (StoreRam at count) h = went-well n pointer w w p (StoreRam at count) p
-  worked-sane (StoreOptions at count) h = went-well n pointer w w p (StoreOptions at count) p
+  worked-sane (StoreRam at count) h = went-well n pointer (StoreRam at count) p
+  worked-sane (StoreOptions at count) h = went-well n pointer (StoreOptions at count) p
 
 module _ (n : ℕ) (d : Device) (f : Form n d) where
   reports-in-form : (ran : Ran) (w : List ℕ) → Sane n ran → InForm n (reports d ran w)

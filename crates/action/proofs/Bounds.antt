@@ -1,13 +1,10 @@
 -- The action of a well-formed device keeps within memory and block buffer. Assumes nothing.
 use mathlib.Core.Path.{_≡_}
 use mathlib.Core.Bool.{Bool, true, false, _&&_}
-use mathlib.Core.List.{List}
-use Prim.Native.Nat.{ℕ, _+_, _-_, _≤_}
+use Prim.Native.Nat.{ℕ, _≤_}
 use native.Mathlib.Omega.{arith}
 use lib.Dec.{leb}
-use lib.ListN.{length, take}
 use borrow.Author.Tests.{leb-true}
-use Rattle.laws.proofs.Bytes.{take-at-most}
 use Rattle.laws.proofs.Split.{by-bool, and-true}
 use Rattle.board.specs.declared.Place.{Place}
 use Rattle.board.specs.declared.Place.the-variants.{Flash, Ram, Options, Outside}
@@ -23,11 +20,11 @@ use Rattle.mode.specs.Wire.{isMode}
 use Rattle.states.specs.WellFormed.{inRegion, writeFits, pendingFits, statusFits, wellFormed}
 use Rattle.access.specs.declared.Access.{Access}
 use Rattle.access.specs.declared.Access.the-variants.{Denied, InFlash, InRam, InOptions}
 use Rattle.action.specs.declared.Action.{Action}
 use Rattle.access.specs.Access.{blockAccess}
 use Rattle.action.specs.Action.{pointOf, eraseAt, eraseOf, storeAt, actionIn, actionOf}
 use Rattle.access.proofs.Spans.{Granted, block-granted}
-use Rattle.loader.specs.Inner.{endOf, countOf}
+use Rattle.action.specs.Reach.{endOf, countOf}
 
 -- an action that ends within memory and takes no more than a transfer
 pub record Fits (n : ℕ) (action : Action) : Type 0 where
@@ -81,7 +78,3 @@ unfolding wellFormed actionOf
 action-fits n protected d w =
     let p = and-true (inRegion n (d .pointer)) (pendingFits (d .mode) (d .pending) && statusFits (d .mode) (d .status)) w .1 in
     action-in-fits n protected (d .pointer) (d .mode) (d .pending) (and-true (pendingFits (d .mode) (d .pending)) (statusFits (d .mode) (d .status)) p .0)
-
--- the front of a block, laid where its count fits
-pub front-ends : (at count limit : ℕ) (b m : List ℕ) → length m ≡ limit → at + count ≤ limit → at + length (take (count - 0) b) ≤ length m
-front-ends at count limit b m e h = omega (arith, take-at-most (count - 0) b)
