@@ -253,17 +253,7 @@ fn waits(device: Device) -> bool
     ensures { λ r. ⌜ r ≡ isMode 3 (device .mode) ⌝ }
 {
     let mode = device.mode;
-    match mode {
-        Mode::Idle => false,
-        Mode::DownloadSync => true,
-        Mode::DownloadBusy => false,
-        Mode::DownloadIdle => false,
-        Mode::ManifestSync => false,
-        Mode::UploadIdle => false,
-        Mode::Error => false,
-        Mode::Left => false,
-        Mode::Rebooting => false,
-    }
+    mode.wire() == 3
 }
 
 // An action on memory; the answer is its status.
