@@ -146,7 +146,7 @@ fn write(board: Board, work: &mut [u8], word: u32, at: usize, count: usize) -> u
     if !is_open(board, word, end) {
         return write_sparing(board, work, word, at, count);
     }
-    if !buffer::all_are(work, at, end, 0xFF) {
+    if !compare::all_are(work, at, end, 0xFF) {
         return Device::WRITE;
     }
     if !marks::are_marked(board, work, at, end, 1) {

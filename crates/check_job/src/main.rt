@@ -93,7 +93,7 @@ fn check(much: usize) {
 fn is_quiet(count: usize) -> bool {
     let mut word = [0u8; WORD];
     let length = os::arg(NAMED, &mut word);
-    count == NAMED + 1 && length == WORD && buffer::same_bytes(&word, b"quiet")
+    count == NAMED + 1 && length == WORD && compare::same_bytes(&word, b"quiet")
 }
 
 // How much the call asks for: words, where it names three files or none; the line, where it names three and adds the

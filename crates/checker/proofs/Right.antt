@@ -14,7 +14,7 @@ use Rattle.laws.proofs.Lists.{same-eq}
 use Rattle.verdict.specs.Verdict.{pagesEnd}
 use Rattle.marks.specs.Area.{workBytes}
 use Rattle.judgement.specs.Judgement.{suspect, lowestFrom}
-use Rattle.buffer.proofs.Alike.{are-at}
+use Rattle.compare.proofs.Alike.{are-at}
 use Rattle.judgement.proofs.Lowest.{lowest-none}
 use Rattle.checker.proofs.Walking.{suspect-image, suspect-rest, suspect-other}
 

@@ -58,10 +58,10 @@ fn is_right(board: Board, image: &[u8], work: &[u8]) -> bool
 {
     let size = board.flash_bytes();
     let end = board::pages_of(image) * Board::PAGE;
-    if !buffer::same_bytes(&work[0..image.len()], image) {
+    if !compare::same_bytes(&work[0..image.len()], image) {
         return false;
     }
-    if !buffer::all_are(work, image.len(), end, 0xFF) {
+    if !compare::all_are(work, image.len(), end, 0xFF) {
         return false;
     }
     if !marks::are_marked(board, work, 0, end, 1) {
@@ -104,7 +104,7 @@ fn finish(board: Board, device: Device, image: &[u8], card: &[u8], work: &[u8]) 
 {
     let from = board.options_from();
     let to = from + Board::OPTION_BYTES;
-    let same = buffer::same_bytes(&work[from..to], card);
+    let same = compare::same_bytes(&work[from..to], card);
     let fault = end_fault(device, same);
     if fault < 4 {
         return Verdict::End(fault);

@@ -48,5 +48,5 @@ pub fn are_marked(board: Board, work: &[u8], from: usize, to: usize, known: u8) 
     ensures { λ r. ⌜ r ≡ allAre known (to - from) (drop (memoryBytes (board .pages) + from) (now (work .entry))) ⌝ }
 {
     let marks = board.memory_bytes();
-    buffer::all_are(work, marks + from, marks + to, known)
+    compare::all_are(work, marks + from, marks + to, known)
 }

@@ -54,7 +54,7 @@ fn part_of(place: usize) -> Part
 // Every part that differs, with the first place that does.
 pub(crate) fn list(old: &[u8], new: &[u8], lead: usize, out: &mut [u8], at: usize) -> usize {
     let mut end = at;
-    let mut place = buffer::first_change(old, new, 0, MEMORY);
+    let mut place = compare::first_change(old, new, 0, MEMORY);
     while place < MEMORY {
         let part = part_of(place);
         end = sentence::fill(
@@ -64,7 +64,7 @@ pub(crate) fn list(old: &[u8], new: &[u8], lead: usize, out: &mut [u8], at: usiz
             out,
             end,
         );
-        place = buffer::first_change(old, new, part.to, MEMORY);
+        place = compare::first_change(old, new, part.to, MEMORY);
     }
     end
 }

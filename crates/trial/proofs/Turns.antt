@@ -16,7 +16,7 @@ use Rattle.loader.specs.declared.Stepped.{Stepped}
 use Rattle.loader.specs.Answer.{left}
 use Rattle.packed.specs.Ways.{pieceLength}
 use Rattle.player.specs.Played.{playedOf}
-use Rattle.buffer.specs.Change.{firstChange}
+use Rattle.compare.specs.Change.{firstChange}
 use Rattle.trial.specs.declared.Scene.{Scene}
 use Rattle.trial.specs.Trial.{unplayed, nextOf, Life, life, livedOn, turnOf, livesOf, firstWritten, targetOf, surveyed, equipped, zeros, lastOf, trialOf}
 

@@ -18,7 +18,7 @@ use Rattle.access.specs.Access.{blockAddress}
 use Rattle.loader.specs.Answer.{Outcome}
 use Rattle.packed.specs.Ways.{pieceLength}
 use Rattle.player.specs.Played.{playedOf}
-use Rattle.buffer.specs.Change.{firstChange}
+use Rattle.compare.specs.Change.{firstChange}
 use Rattle.trial.specs.declared.Scene.{Scene}
 
 -- 1 in the two modes in which the loader is about to leave, or has left

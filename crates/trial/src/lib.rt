@@ -208,7 +208,7 @@ fn survey(scene: Scene, memory: &[u8], card: &[u8]) -> Scene
     Scene {
         is_protected: protection::read_protected(Board::LOGGER, memory),
         dirt: first_written(memory, from),
-        altered: buffer::first_change(&memory[OPTIONS_AT..], card, 0, OPTIONS),
+        altered: compare::first_change(&memory[OPTIONS_AT..], card, 0, OPTIONS),
         ..scene
     }
 }

@@ -1,12 +1,12 @@
--- `buffer::first_change` meets its contract. Assumes nothing.
+-- `compare::first_change` meets its contract. Assumes nothing.
 use mathlib.Core.Path.{_≡_, refl, _∙_, sym}
 use Prim.Native.Nat.{_-_, _≤_}
 use native.Mathlib.Omega.{arith}
 use borrow.Author.Needs.{needs}
-use Rattle.buffer.specs.Change.{firstChange}
-use Rattle.buffer.proofs.Change.{first-turn, first-stop, first-end}
-use Rattle.buffer.proofs.first_change.Statement.{statement}
-use Rattle.buffer.proofs.first_change.Tie as tie
+use Rattle.compare.specs.Change.{firstChange}
+use Rattle.compare.proofs.Change.{first-turn, first-stop, first-end}
+use Rattle.compare.proofs.first_change.Statement.{statement}
+use Rattle.compare.proofs.first_change.Tie as tie
 
 abbrev Inv-loop : tie.InvT-loop
 Inv-loop old new from to i₀ i = (firstChange old new (to - i) i ≡ firstChange old new (to - from) from) × (from ≤ i)

@@ -6,7 +6,7 @@ use native.Mathlib.Omega.{arith}
 use native.Mathlib.Numerals.{add-one}
 use lib.ListN.{getD}
 use borrow.Author.Tests.{eq-eqb, ne-eqb}
-use Rattle.buffer.specs.Change.{firstChange}
+use Rattle.compare.specs.Change.{firstChange}
 
 module _ (old new : List ℕ) (i to a b : ℕ) (more : i < to) (ea : a ≡ getD old i 0) (eb : b ≡ getD new i 0) where
   pub first-turn : a ≡ b → firstChange old new (to - i) i ≡ firstChange old new (to - (i + 1)) (i + 1)

@@ -1,13 +1,13 @@
--- `buffer::same_bytes` meets its contract. Assumes nothing.
+-- `compare::same_bytes` meets its contract. Assumes nothing.
 use native.Mathlib.Omega.{arith}
-use Rattle.buffer.proofs.Alike.{same-turn, same-end}
+use Rattle.compare.proofs.Alike.{same-turn, same-end}
 use Rattle.laws.specs.Lists.{same}
 use lib.ListN.{length, drop}
 use Prim.Native.Nat.{_-_}
 use mathlib.Core.Bool.{_&&_}
 use mathlib.Core.Path.{_≡_, refl, sym, _∙_}
-use Rattle.buffer.proofs.same_bytes.Statement.{statement}
-use Rattle.buffer.proofs.same_bytes.Tie as tie
+use Rattle.compare.proofs.same_bytes.Statement.{statement}
+use Rattle.compare.proofs.same_bytes.Tie as tie
 
 abbrev Inv-loop : tie.InvT-loop
 Inv-loop these those alike₀ i₀ alike i = alike && same (drop i these) (drop i those) ≡ same these those

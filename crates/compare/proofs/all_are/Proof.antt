@@ -1,13 +1,13 @@
--- `buffer::all_are` meets its contract. Assumes nothing.
+-- `compare::all_are` meets its contract. Assumes nothing.
 use native.Mathlib.Omega.{arith}
-use Rattle.buffer.proofs.Alike.{are-turn, are-end}
+use Rattle.compare.proofs.Alike.{are-turn, are-end}
 use Rattle.laws.specs.Lists.{allAre}
 use lib.ListN.{drop}
 use Prim.Native.Nat.{_-_, _≤_}
 use mathlib.Core.Bool.{_&&_}
 use mathlib.Core.Path.{_≡_, refl, sym, _∙_}
-use Rattle.buffer.proofs.all_are.Statement.{statement}
-use Rattle.buffer.proofs.all_are.Tie as tie
+use Rattle.compare.proofs.all_are.Statement.{statement}
+use Rattle.compare.proofs.all_are.Tie as tie
 
 abbrev Inv-loop : tie.InvT-loop
 Inv-loop bytes from to byte alike₀ i₀ alike i = (alike && allAre byte (to - i) (drop i bytes) ≡ allAre byte (to - from) (drop from bytes)) × (from ≤ i)
