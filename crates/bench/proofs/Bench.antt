@@ -8,7 +8,7 @@ use lib.ListN.{length, replicate, length-replicate}
 use Rattle.board.specs.Layout.{loggerPages, optionBytes}
 use Rattle.laws.specs.Lists.{allBytes}
 use Rattle.verdict.specs.declared.Verdict.the-variants.{End}
-use Rattle.verdict.specs.Verdict.{endFails, Judged}
+use Rattle.demand.specs.Verdict.{endFails, Judged}
 use Rattle.marks.specs.Area.{workBytes}
 use Rattle.judgement.specs.Judgement.{overOf, lowestFrom, endNumber, endVerdict, verdictOf}
 use Rattle.judgement.proofs.Judgement.{judged}

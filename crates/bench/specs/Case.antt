@@ -24,7 +24,7 @@ use Rattle.loader.specs.Step.{admittedOf, stepOf}
 use Rattle.refusal.specs.Order.{firstOf}
 use Rattle.line.specs.Event.{Event}
 use Rattle.verdict.specs.declared.Verdict.{Verdict}
-use Rattle.verdict.specs.Verdict.{endFails}
+use Rattle.demand.specs.Verdict.{endFails}
 use Rattle.marks.specs.Area.{workBytes}
 use Rattle.judgement.specs.Judgement.{overOf, lowestFrom, endNumber, endVerdict, verdictOf}
 

@@ -16,8 +16,8 @@ use Rattle.text.proofs.EventText.{proper-parts, good-proper}
 use Rattle.verdict.specs.declared.Verdict.{Verdict}
 use Rattle.verdict.specs.declared.Verdict.the-variants as verdict
 use Rattle.verdict.specs.Report.{inFields}
-use Rattle.verdict.specs.Checked.{checkable, Checked}
-use Rattle.verdict.proofs.Supply.{Checkable, checkable-parts}
+use Rattle.demand.specs.Checked.{checkable, Checked}
+use Rattle.demand.proofs.Supply.{Checkable, checkable-parts}
 use Rattle.judgement.specs.Judgement.{overOf, endVerdict, overVerdict, begun, verdictOf}
 use Rattle.judgement.proofs.Events.{Fitting}
 use Rattle.judgement.proofs.Runs.{AllFit}

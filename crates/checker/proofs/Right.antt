@@ -11,7 +11,7 @@ use Rattle.laws.proofs.Split.{by-lt}
 use Rattle.board.specs.Layout.{flashBytes, memoryBytes}
 use Rattle.laws.specs.Lists.{same, allAre}
 use Rattle.laws.proofs.Lists.{same-eq}
-use Rattle.verdict.specs.Verdict.{pagesEnd}
+use Rattle.demand.specs.Verdict.{pagesEnd}
 use Rattle.marks.specs.Area.{workBytes}
 use Rattle.judgement.specs.Judgement.{suspect, lowestFrom}
 use Rattle.compare.proofs.Alike.{are-at}

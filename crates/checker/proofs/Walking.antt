@@ -12,7 +12,7 @@ use Rattle.board.specs.Layout.{flashBytes, memoryBytes, optionsFrom, optionByte
 use Rattle.device.specs.declared.Device.{Device}
 use Rattle.laws.specs.Lists.{same}
 use Rattle.verdict.specs.declared.Verdict.the-variants as verdict
-use Rattle.verdict.specs.Verdict.{pagesEnd}
+use Rattle.demand.specs.Verdict.{pagesEnd}
 use Rattle.judgement.specs.Judgement.{suspect, lowestFrom, flashVerdict, endNumber, endOr, endVerdict}
 
 pub lowest-found : (test : ℕ → Bool) (i e : ℕ) → i < e → test i ≡ true → i ≡ lowestFrom test (e - i) i

@@ -19,7 +19,7 @@ use Rattle.device.specs.State.{started}
 use Rattle.laws.specs.Lists.{allBytes}
 use Rattle.laws.proofs.Lists.{bytes-append}
 use Rattle.loader.specs.World.{World}
-use Rattle.verdict.specs.Boards.{Fresh}
+use Rattle.demand.specs.Boards.{Fresh}
 use Rattle.marks.specs.Area.{workBytes}
 use Rattle.marks.specs.Marks.{marked}
 use Rattle.cells.specs.Cells.{known, learnt}

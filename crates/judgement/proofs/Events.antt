@@ -44,7 +44,7 @@ use Rattle.loader.specs.Step.{sizesOf, stepOf}
 use Rattle.loader.proofs.Admitted.{step-attaches, step-serves, admit-all, in-order-admitted}
 use Rattle.line.specs.Event.{Event, attach, request}
 use Rattle.loader.specs.World.{World, worldOf, steppedOf}
-use Rattle.verdict.specs.Boards.{fails, asksStatus}
+use Rattle.demand.specs.Boards.{fails, asksStatus}
 use Rattle.marks.specs.Marks.{blockFrom}
 use Rattle.cells.specs.Cells.{known, blockOf, falls, goes, readMoves, readsMoves, statusMoves, decisionMoves, requestMoves, moves}
 use Rattle.cells.proofs.Likeness.{Alike}

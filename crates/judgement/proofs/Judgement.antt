@@ -18,8 +18,8 @@ use Rattle.laws.specs.Lists.{same, allBytes}
 use Rattle.line.specs.Event.{Event}
 use Rattle.verdict.specs.declared.Verdict.the-variants as verdict
 use Rattle.loader.specs.World.{World, after}
-use Rattle.verdict.specs.Boards.{Fresh, failsAt}
-use Rattle.verdict.specs.Verdict.{endFails, endFault, pagesEnd, wantedAt, wrongAt, OnSome, OnNone, RunsClean, EndsWell, Judged}
+use Rattle.demand.specs.Boards.{Fresh, failsAt}
+use Rattle.demand.specs.Verdict.{endFails, endFault, pagesEnd, wantedAt, wrongAt, OnSome, OnNone, RunsClean, EndsWell, Judged}
 use Rattle.marks.specs.Area.{workBytes}
 use Rattle.cells.specs.Cells.{known}
 use Rattle.judgement.specs.Judgement.{begun, Over, fell, ended, overOf, suspect, lowestFrom, flashVerdict, endNumber, endVerdict, verdictOf}

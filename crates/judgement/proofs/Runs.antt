@@ -11,7 +11,7 @@ use Rattle.device.specs.declared.Device.{Device}
 use Rattle.states.proofs.Form.{Form}
 use Rattle.line.specs.Event.{Event}
 use Rattle.loader.specs.World.{World, worldOf, steppedOf, after}
-use Rattle.verdict.specs.Boards.{fails, failsAt}
+use Rattle.demand.specs.Boards.{fails, failsAt}
 use Rattle.cells.specs.Cells.{Moved, falls, goes, moves}
 use Rattle.judgement.specs.Judgement.{fell, ended, overOf}
 use Rattle.cells.proofs.InForm.{moves-form}

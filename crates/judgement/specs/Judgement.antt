@@ -13,7 +13,7 @@ use Rattle.line.specs.Event.{Event}
 use Rattle.marks.specs.Marks.{marked}
 use Rattle.verdict.specs.declared.Verdict.{Verdict}
 use Rattle.verdict.specs.declared.Verdict.the-variants as verdict
-use Rattle.verdict.specs.Verdict.{endFails, pagesEnd}
+use Rattle.demand.specs.Verdict.{endFails, pagesEnd}
 use Rattle.cells.specs.Cells.{known, learnt, Moved, falls, goes, moves}
 
 -- the events of a job: the first that falls, counted from 1 after k, or how all boards end

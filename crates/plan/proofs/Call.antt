@@ -11,8 +11,8 @@ use Rattle.text.proofs.EventText.{text-clean}
 use Rattle.job.proofs.Refusals.{text-good}
 use Rattle.board.specs.Supply.{supplied}
 use Rattle.marks.specs.Area.{workBytes}
-use Rattle.verdict.specs.Checked.{checkable}
-use Rattle.verdict.proofs.Supply.{checkable-then}
+use Rattle.demand.specs.Checked.{checkable}
+use Rattle.demand.proofs.Supply.{checkable-then}
 use Rattle.plan.specs.Plan.{planEvents, planOf}
 use Rattle.plan.proofs.Proper.{plan-proper}
 

@@ -21,7 +21,7 @@ use Rattle.mode.specs.Table.{allowedOf}
 use Rattle.laws.specs.Lists.{allBytes}
 use Rattle.flash.specs.Flash.{kept, stored}
 use Rattle.line.specs.Event.{Event}
-use Rattle.verdict.specs.Boards.{Fresh}
+use Rattle.demand.specs.Boards.{Fresh}
 use Rattle.marks.specs.Area.{workBytes}
 use Rattle.marks.specs.Marks.{blockFrom}
 use Rattle.cells.specs.Cells.{known, pageErased}

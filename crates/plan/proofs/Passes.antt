@@ -19,7 +19,7 @@ use Rattle.mode.specs.Table.{allowedOf}
 use Rattle.laws.specs.Lists.{allBytes}
 use Rattle.laws.proofs.Lists.{same-refl}
 use Rattle.verdict.specs.declared.Verdict.the-variants as verdict
-use Rattle.verdict.specs.Verdict.{endFails, pagesEnd}
+use Rattle.demand.specs.Verdict.{endFails, pagesEnd}
 use Rattle.marks.specs.Area.{workBytes}
 use Rattle.judgement.specs.Judgement.{begun, Over, ended, overOf, suspect, lowestFrom, endNumber, endVerdict, overVerdict, verdictOf}
 use Rattle.judgement.proofs.Lowest.{lowest-none}

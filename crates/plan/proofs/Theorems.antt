@@ -12,11 +12,11 @@ use Rattle.text.specs.Text.{limit, eventsOf}
 use Rattle.text.proofs.EventText.{text-events}
 use Rattle.verdict.specs.declared.Verdict.{Verdict}
 use Rattle.verdict.specs.declared.Verdict.the-variants as verdict
-use Rattle.verdict.specs.Verdict.{Judged}
+use Rattle.demand.specs.Verdict.{Judged}
 use Rattle.marks.specs.Area.{workBytes}
-use Rattle.verdict.specs.Checked.{Checked}
+use Rattle.demand.specs.Checked.{Checked}
 use Rattle.verdict.specs.Report.{inFields}
-use Rattle.verdict.proofs.Theorems.{one-verdict, checked-verdict}
+use Rattle.demand.proofs.Theorems.{one-verdict, checked-verdict}
 use Rattle.judgement.proofs.Judgement.{judged}
 use Rattle.plan.specs.Plan.{planEvents, planOf, barred, planable, planned}
 use Rattle.plan.proofs.Passes.{plan-verdict}

@@ -1,5 +1,3 @@
-pub mod Supply
 pub mod Line
 pub mod Reading
-pub mod Order
 pub mod Theorems

@@ -1,5 +1,1 @@
-pub mod Boards
-pub mod Verdict
 pub mod Report
-pub mod Checked
-pub mod Demand

@@ -1,7 +1,7 @@
 -- `checker::admit` meets its contract. Assumes nothing.
 use mathlib.Core.Path.{_∙_, sym}
 use Rattle.refusal.specs.declared.Admission.the-variants as admission
-use Rattle.verdict.proofs.Supply.{checkable-work, checkable-then}
+use Rattle.demand.proofs.Supply.{checkable-work, checkable-then}
 use borrow.Author.Needs.{needs}
 use Rattle.checker.proofs.admit.Statement.{statement}
 use Rattle.checker.proofs.admit.Tie as tie

@@ -2,7 +2,7 @@
 use mathlib.Core.Path.{_∙_, sym}
 use borrow.Author.Tests.{eq-eqb, ne-eqb, not-false}
 use borrow.Author.Needs.{needs}
-use Rattle.verdict.specs.Verdict.{endFails}
+use Rattle.demand.specs.Verdict.{endFails}
 use Rattle.judgement.specs.Judgement.{lowestFrom, endNumber}
 use Rattle.checker.proofs.end_fault.Statement.{statement}
 use Rattle.checker.proofs.end_fault.Tie as tie

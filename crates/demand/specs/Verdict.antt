@@ -11,10 +11,10 @@ use Rattle.mode.specs.declared.Mode.{Mode}
 use Rattle.mode.specs.declared.Mode.the-variants.{Idle, DownloadSync, DownloadBusy, DownloadIdle, ManifestSync, UploadIdle, Error, Left, Rebooting}
 use Rattle.laws.specs.Lists.{same}
 use Rattle.line.specs.Event.{Event}
 use Rattle.verdict.specs.declared.Verdict.{Verdict}
 use Rattle.verdict.specs.declared.Verdict.the-variants as verdict
 use Rattle.loader.specs.World.{World, after}
-use Rattle.verdict.specs.Boards.{Fresh, failsAt}
+use Rattle.demand.specs.Boards.{Fresh, failsAt}
 
 -- the mode Left, which no wire number tells from Rebooting
 abbrev pub isLeft : Mode → Bool

@@ -4,7 +4,7 @@ use mathlib.Core.Bool.{true}
 use mathlib.Core.List.{List}
 use Prim.Native.Nat.{ℕ}
 use Rattle.refusal.specs.Order.{met, before, beforeAll, inOrder}
-use Rattle.verdict.specs.Checked.{checkRefusals}
+use Rattle.demand.specs.Checked.{checkRefusals}
 
 pub check-in-order : (n : ℕ) (t : List ℕ) (image card work : ℕ) → inOrder (checkRefusals n t image card work) ≡ true
 unfolding met before beforeAll inOrder

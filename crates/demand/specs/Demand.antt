@@ -7,8 +7,8 @@ use lib.ListN.{length, drop, getD}
 use Rattle.board.specs.Layout.{flashFirst, flashBytes, optionsFrom}
 use Rattle.line.specs.Event.{Event}
 use Rattle.loader.specs.World.{World, after}
-use Rattle.verdict.specs.Boards.{Fresh, failsAt}
-use Rattle.verdict.specs.Verdict.{isLeft, pagesEnd}
+use Rattle.demand.specs.Boards.{Fresh, failsAt}
+use Rattle.demand.specs.Verdict.{isLeft, pagesEnd}
 
 -- the board w "runs it without a stall, a silence or an error status, and is then started from the first flash address with the
 -- image in place, the rest of its last page erased, and every other flash page and the option bytes as before"

@@ -15,7 +15,7 @@ use Rattle.text.specs.Text.{limit, firstBad}
 use Rattle.job.specs.Calls.{textRefusals}
 use Rattle.job.proofs.Refusals.{text-parts}
 use Rattle.marks.specs.Area.{workBytes}
-use Rattle.verdict.specs.Checked.{checkRefusals, checkable}
+use Rattle.demand.specs.Checked.{checkRefusals, checkable}
 
 -- what an admitted check was supplied with
 pub record Checkable (n : ℕ) (t : List ℕ) (image card work : ℕ) : Type 0 where

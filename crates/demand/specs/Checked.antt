@@ -14,10 +14,10 @@ use Rattle.board.specs.Supply.{supplyRefusals}
 use Rattle.marks.specs.Area.{workBytes}
 use Rattle.text.specs.Text.{eventsOf}
 use Rattle.job.specs.Calls.{textRefusals}
 use Rattle.verdict.specs.declared.Verdict.{Verdict}
 use Rattle.verdict.specs.declared.Verdict.the-variants as verdict
-use Rattle.verdict.specs.Verdict.{Judged}
+use Rattle.demand.specs.Verdict.{Judged}
 use Rattle.verdict.specs.Report.{Fields, inFields}
 
 -- rows 6 to 10, for the text t and the lengths of image, card and work area
 abbrev pub checkRefusals : ℕ → List ℕ → ℕ → ℕ → ℕ → List (Refusal × Bool)

@@ -1,0 +1,4 @@
+pub mod Boards
+pub mod Verdict
+pub mod Checked
+pub mod Demand
