@@ -9,8 +9,9 @@ use borrow.Author.Tests.{lt-ltb, le-ltb}
 use Rattle.laws.proofs.Split.{by-lt}
 use Rattle.refusal.specs.declared.Refusal.the-variants.{Text, Line}
 use Rattle.refusal.specs.declared.Done.the-variants.{Bytes, Refused}
-use Rattle.line.specs.Line.{firstLine, eventOf, wellSpelled}
-use Rattle.text.specs.Text.{limit, linesOf, badFrom, firstBad, eventsIn, eventsOf}
+use Rattle.laws.specs.Lines.{firstLine, linesOf}
+use Rattle.line.specs.Line.{eventOf, wellSpelled}
+use Rattle.text.specs.Text.{limit, badFrom, firstBad, eventsIn, eventsOf}
 use Rattle.line.specs.Ways.{lineLength}
 use Rattle.line.proofs.Formed.{asks-event, asks-length}
 use Rattle.line.proofs.LineLength.{short-attaches, long-asks}

@@ -13,7 +13,8 @@ use Rattle.line.specs.Event.{Event}
 use Rattle.packed.specs.Packed.{packOf, packedOf}
 use Rattle.line.specs.Ways.{lineLength}
 use Rattle.job.specs.Ways.{packedSize}
-use Rattle.line.specs.Line.{firstLine, eventOf, wellSpelled}
+use Rattle.laws.specs.Lines.{firstLine}
+use Rattle.line.specs.Line.{eventOf, wellSpelled}
 use Rattle.text.specs.Text.{firstBad, eventsOf}
 use Rattle.line.proofs.LineLength.{length-good}
 use Rattle.job.proofs.Measuring.{size-packed, turn-packed, turn-total}

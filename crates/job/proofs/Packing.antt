@@ -12,7 +12,8 @@ use Rattle.laws.proofs.Append.{sets-append, part-put}
 use Rattle.request.specs.Setup.{setupOf, dataLength}
 use Rattle.hex.specs.Hex.{bytesOf}
 use Rattle.packed.specs.Packed.{packOf}
-use Rattle.line.specs.Line.{firstLine, eventOf}
+use Rattle.laws.specs.Lines.{firstLine}
+use Rattle.line.specs.Line.{eventOf}
 use Rattle.line.proofs.Formed.{Asks, asks-size, asks-event, asks-length, asks-setup, asks-data, asks-spells}
 use Rattle.line.proofs.LineLength.{Attaches}
 

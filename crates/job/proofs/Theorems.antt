@@ -11,7 +11,8 @@ use Rattle.refusal.specs.declared.Refusal.the-variants.{Line}
 use Rattle.refusal.specs.declared.Done.{Done}
 use Rattle.refusal.specs.declared.Done.the-variants.{Bytes, Refused}
 use Rattle.line.specs.Event.{Event}
-use Rattle.text.specs.Text.{limit, proper, textOf, linesOf, firstBad, eventsOf}
+use Rattle.laws.specs.Lines.{linesOf}
+use Rattle.text.specs.Text.{limit, proper, textOf, firstBad, eventsOf}
 use Rattle.packed.specs.Packed.{packedOf, unpacked}
 use Rattle.refusal.specs.Delivery.{inNumbers, delivery, delivered}
 use Rattle.packed.specs.Calls.{writeRefusals, writeOf}

@@ -1,5 +1,6 @@
 pub mod Append
 pub mod Bytes
+pub mod Lines
 pub mod Lists
 pub mod Places
 pub mod Split

@@ -1,4 +1,5 @@
 pub mod Bytes
+pub mod Lines
 pub mod Lists
 pub mod Table
 pub mod Ascii

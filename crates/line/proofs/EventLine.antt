@@ -11,7 +11,8 @@ use Rattle.request.proofs.Lengths.{fits-eight}
 use Rattle.hex.specs.Hex.{hexOf}
 use Rattle.hex.proofs.Fields.{digits-hex}
 use Rattle.line.specs.Event.{Event, attach, request, fits, inBytes, lineOf}
-use Rattle.line.specs.Line.{firstLine, eventOf, wellSpelled}
+use Rattle.laws.specs.Lines.{firstLine}
+use Rattle.line.specs.Line.{eventOf, wellSpelled}
 use Rattle.line.proofs.Spelling.{spells-hex, spelled}
 use Rattle.line.proofs.FirstLine.{first-spelled}
 use Rattle.line.proofs.Formed.{well-spelled, event-spelled}

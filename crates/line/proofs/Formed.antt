@@ -15,10 +15,12 @@ use Rattle.hex.specs.Hex.{hexOf, bytesOf, allDigits}
 use Rattle.hex.proofs.Fields.{hex-length, bytes-are, digits-hex}
 use Rattle.laws.specs.Lists.{same, allBytes}
 use Rattle.line.specs.Event.{Event, attach, request, fits, lineOf, inBytes}
-use Rattle.line.specs.Line.{firstLine, eventOf, wellSpelled}
+use Rattle.laws.specs.Lines.{firstLine}
+use Rattle.laws.proofs.Lines.{first-rest, first-kind}
+use Rattle.line.specs.Line.{eventOf, wellSpelled}
 use Rattle.line.proofs.Spelling.{Spells, spells-field, hex-spells, spelled, Spelled, spelled-here}
 use Rattle.laws.proofs.Lists.{same-refl, same-eq, bytes-append}
-use Rattle.line.proofs.FirstLine.{first-rest, first-kind, first-spelled}
+use Rattle.line.proofs.FirstLine.{first-spelled}
 
 -- a well-formed line is the line of its event, and this event fits; and what is so is well formed
 pub formed-fits : (l : List ℕ) → wellSpelled l ≡ true → fits (eventOf l) ≡ true

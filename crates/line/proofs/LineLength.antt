@@ -11,9 +11,11 @@ use Rattle.request.specs.Setup.{setupOf, dataLength}
 use Rattle.hex.specs.Hex.{bytesOf, allDigits}
 use Rattle.line.specs.Event.{attach}
 use Rattle.line.specs.Ways.{lineLength}
-use Rattle.line.specs.Line.{firstLine, eventOf, wellSpelled}
+use Rattle.laws.specs.Lines.{firstLine}
+use Rattle.laws.proofs.Lines.{first-rest, first-kind, first-some, first-length}
+use Rattle.line.specs.Line.{eventOf, wellSpelled}
 use Rattle.line.proofs.Spelling.{Spells, spells-field, is-spelled}
-use Rattle.line.proofs.FirstLine.{first-rest, first-kind, first-some, first-length, first-attach}
+use Rattle.line.proofs.FirstLine.{first-attach}
 use Rattle.line.proofs.Formed.{formed-attach, attach-line-formed, event-attach, fits-if, setup-front, Asks, asks, asks-facts, asks-formed, asks-size, asks-length, asks-setup, asks-data, asks-digits, asks-body}
 
 pub length-good : (u : List ℕ) → wellSpelled (firstLine u) ≡ true → lineLength u ≡ length (firstLine u)

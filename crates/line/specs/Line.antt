@@ -1,4 +1,4 @@
--- The first line of a text, and the event that a line spells. Document 01, "Job text". Assumes nothing.
+-- The event that a line spells. Document 01, "Job text". Assumes nothing.
 use mathlib.Core.Bool.{Bool, cond, _&&_}
 use mathlib.Core.List.{List, [], _∷_, _++_}
 use Prim.Native.Nat.{ℕ, _-_}
@@ -7,11 +7,6 @@ use lib.ListN.{length, take, drop, getD}
 use Rattle.hex.specs.Hex.{bytesOf}
 use Rattle.laws.specs.Lists.{same}
 use Rattle.line.specs.Event.{Event, attach, request, fits, lineOf}
-
--- the first line of a text, with the LF that ends it; what has no LF is a line all the same
-unfoldable pub firstLine : List ℕ → List ℕ
-firstLine [] = []
-firstLine (x ∷ t) = cond (eqb x 10) (x ∷ []) (x ∷ firstLine t)
 
 -- where the data begin in a request's line: behind `Q`, tab, 16 digits, tab
 abbrev pub dataFrom : ℕ

@@ -15,7 +15,7 @@ use Rattle.line.specs.Event.{Event, attach, request, fits, inBytes}
 use Rattle.text.specs.Text.{proper}
 use Rattle.packed.specs.Packed.{packOf, packedOf, pieceSize, firstPiece, piecesAfter, eventIn, wellPacked, allPacked, eventsAmong, packs, unpacked}
 use Rattle.laws.proofs.Lists.{same-refl, same-eq, bytes-drop, bytes-apart}
-use Rattle.text.proofs.Lines.{joined}
+use Rattle.laws.proofs.Lines.{joined}
 use Rattle.text.proofs.EventText.{proper-parts}
 use Rattle.line.proofs.Formed.{setup-front}
 

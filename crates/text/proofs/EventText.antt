@@ -9,9 +9,10 @@ use lib.ListN.{length, drop, getD, length-append}
 use lib.Seq.{drop-append-seam}
 use Rattle.laws.proofs.Split.{by-bool, and-true}
 use Rattle.line.specs.Event.{Event, fits, inBytes, lineOf}
-use Rattle.text.specs.Text.{proper, textOf, linesOf, badFrom, firstBad, eventsIn, eventsOf}
-use Rattle.line.specs.Line.{firstLine, wellSpelled}
-use Rattle.text.proofs.Lines.{lines-first, joined, joined-lines}
+use Rattle.laws.specs.Lines.{linesOf, firstLine}
+use Rattle.laws.proofs.Lines.{lines-first, joined, joined-lines}
+use Rattle.text.specs.Text.{proper, textOf, badFrom, firstBad, eventsIn, eventsOf}
+use Rattle.line.specs.Line.{wellSpelled}
 use Rattle.line.proofs.Formed.{formed-fits, formed-line, event-bytes}
 use Rattle.line.proofs.EventLine.{line-event, line-formed, line-first, line-some}
 

@@ -12,7 +12,8 @@ use Rattle.request.specs.declared.Setup.{Setup}
 use Rattle.hex.specs.Hex.{allDigits, bytesOf}
 use Rattle.text.specs.declared.Item.the-variants as item
 use Rattle.line.specs.Ways.{lineLength}
-use Rattle.line.specs.Line.{firstLine, wellSpelled}
+use Rattle.laws.specs.Lines.{firstLine}
+use Rattle.line.specs.Line.{wellSpelled}
 use Rattle.text.specs.Walk.{itemOf}
 use Rattle.line.proofs.Formed.{Asks, asks, asks-size, asks-length, asks-digits, asks-data}
 use Rattle.line.proofs.LineLength.{length-good, attaches}

@@ -1,5 +1,4 @@
 pub mod Halves
-pub mod Lines
 pub mod Walking
 pub mod Known
 pub mod EventText

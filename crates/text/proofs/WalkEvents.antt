@@ -13,10 +13,11 @@ use Rattle.hex.specs.Hex.{allDigits, bytesOf}
 use Rattle.text.specs.declared.Item.{Item}
 use Rattle.text.specs.declared.Item.the-variants as item
 use Rattle.line.specs.Event.{Event, attach, request}
-use Rattle.line.specs.Line.{firstLine, eventOf, wellSpelled}
-use Rattle.text.specs.Text.{linesOf, badFrom, firstBad, eventsIn, eventsOf}
+use Rattle.laws.specs.Lines.{firstLine, linesOf}
+use Rattle.laws.proofs.Lines.{first-some, first-length}
+use Rattle.line.specs.Line.{eventOf, wellSpelled}
+use Rattle.text.specs.Text.{badFrom, firstBad, eventsIn, eventsOf}
 use Rattle.text.specs.Walk.{itemOf}
-use Rattle.line.proofs.FirstLine.{first-some, first-length}
 use Rattle.line.proofs.Formed.{asks-event, asks-length, asks-whole, asks-body, asks-spells}
 use Rattle.line.proofs.LineLength.{attaches}
 use Rattle.text.proofs.Walking.{some-left, lines-here, setup-asked, item-end}

@@ -15,10 +15,11 @@ use Rattle.hex.specs.Hex.{allDigits, bytesOf}
 use Rattle.text.specs.declared.Item.the-variants as item
 use Rattle.line.specs.Event.{Event, attach, request}
 use Rattle.line.specs.Ways.{lineLength}
-use Rattle.line.specs.Line.{firstLine, eventOf, wellSpelled}
-use Rattle.text.specs.Text.{linesOf, badFrom, eventsIn, eventsOf}
+use Rattle.laws.specs.Lines.{firstLine, linesOf}
+use Rattle.laws.proofs.Lines.{lines-first}
+use Rattle.line.specs.Line.{eventOf, wellSpelled}
+use Rattle.text.specs.Text.{badFrom, eventsIn, eventsOf}
 use Rattle.text.specs.Walk.{itemFor, itemOf}
-use Rattle.text.proofs.Lines.{lines-first}
 use Rattle.line.proofs.Formed.{Asks, asks-event, asks-setup, asks-whole, asks-digits}
 use Rattle.line.proofs.LineLength.{length-good, formed-if, malformed-if, short-attaches, long-asks}
 

@@ -1,8 +1,8 @@
--- The text of events, and the lines of a text. Document 01, "Job text" and "Refusal numbers", row 10. Assumes nothing.
+-- The text of events, and the events of a text. Document 01, "Job text" and "Refusal numbers", row 10. Assumes nothing.
 use mathlib.Core.Bool.{Bool, true, cond, _&&_}
 use mathlib.Core.List.{List, [], _∷_, _++_}
 use Prim.Native.Nat.{ℕ, suc}
-use lib.Dec.{eqb}
+use Rattle.laws.specs.Lines.{linesOf}
 use Rattle.line.specs.Event.{Event, fits, inBytes, lineOf}
 use Rattle.line.specs.Line.{eventOf, wellSpelled}
 
@@ -19,16 +19,6 @@ proper (e ∷ es) = (fits e && inBytes e) && proper es
 unfoldable pub textOf : List Event → List ℕ
 textOf [] = []
 textOf (e ∷ es) = lineOf e ++ textOf es
-
--- a byte in front of the first of some lines
-unfoldable pub onto : ℕ → List (List ℕ) → List (List ℕ)
-onto x [] = (x ∷ []) ∷ []
-onto x (l ∷ ls) = (x ∷ l) ∷ ls
-
--- all lines of a text, each with its LF but perhaps the last
-unfoldable pub linesOf : List ℕ → List (List ℕ)
-linesOf [] = []
-linesOf (x ∷ t) = cond (eqb x 10) ((x ∷ []) ∷ linesOf t) (onto x (linesOf t))
 
 -- row 10: of lines that are counted from k on, the number of the first malformed one; 0 where there is none
 unfoldable pub badFrom : ℕ → List (List ℕ) → ℕ

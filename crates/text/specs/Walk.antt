@@ -8,7 +8,8 @@ use Rattle.request.specs.Setup.{setupOf}
 use Rattle.text.specs.declared.Item.{Item}
 use Rattle.text.specs.declared.Item.the-variants as item
 use Rattle.line.specs.Event.{Event, attach, request}
-use Rattle.line.specs.Line.{dataFrom, firstLine, eventOf, wellSpelled}
+use Rattle.laws.specs.Lines.{firstLine}
+use Rattle.line.specs.Line.{dataFrom, eventOf, wellSpelled}
 
 -- what stands at a place of a text: n is the length of its line
 unfoldable pub itemFor : ℕ → ℕ → Event → Item

@@ -6,7 +6,8 @@ ghost use Prim.Native.Nat.{_<_};
 ghost use lib.ListN.{length, drop};
 ghost use Rattle.request.specs.Setup.{setupOf};
 ghost use Rattle.hex.specs.Hex.{allDigits, bytesOf};
-ghost use Rattle.line.specs.Line.{firstLine, wellSpelled};
+ghost use Rattle.laws.specs.Lines.{firstLine};
+ghost use Rattle.line.specs.Line.{wellSpelled};
 ghost use Rattle.text.specs.Walk.{itemOf};
 
 // The most bytes that a text may have.

@@ -2,7 +2,8 @@
 use native.Mathlib.Omega.{arith}
 use Rattle.text.proofs.Walking.{turn-bad, turn-good}
 use Rattle.job.proofs.Measuring.{walk-bad, walk-end, turn-total}
-use Rattle.text.specs.Text.{linesOf, badFrom, firstBad, eventsOf}
+use Rattle.laws.specs.Lines.{linesOf}
+use Rattle.text.specs.Text.{badFrom, firstBad, eventsOf}
 use Rattle.packed.specs.Packed.{packedOf}
 use borrow.Author.Needs.{needs}
 use lib.ListN.{length, drop}
