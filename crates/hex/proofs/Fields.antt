@@ -11,7 +11,7 @@ use lib.Seq.{drop-cons, sets}
 use borrow.Author.Tests.{lt-ltb, le-ltb, ltb-true, ne-eqb}
 use Rattle.laws.specs.Bytes.{put}
 use Rattle.laws.proofs.Bytes.{sets-turn, sets-end, sets-put}
-use Rattle.laws.proofs.Split.{by-lt, and-true, and-right-false, and-right-true}
+use Rattle.laws.proofs.Split.{by-bool, by-lt, and-true, and-right-false, and-right-true}
 use Rattle.laws.specs.Lists.{allBytes}
 use Rattle.hex.specs.Ways.{faultOf}
 use Rattle.hex.specs.Hex.{valueOf, digitOf, byteOf, allDigits, bytesOf, hexOf}
@@ -58,6 +58,13 @@ pub digits-drop : (n : ℕ) (ds : List ℕ) → allDigits ds ≡ true → allDig
 digits-drop zero ds h = h
 digits-drop (suc n) [] h = h
 digits-drop (suc n) (d ∷ ds) h = digits-drop n ds (digits-cons d ds h .1)
+
+-- a field is one of digits where both its parts are
+pub digits-split : (n : ℕ) (ds : List ℕ) → allDigits ds ≡ (allDigits (take n ds) && allDigits (drop n ds))
+unfolding allDigits
+digits-split zero ds = refl
+digits-split (suc n) [] = refl
+digits-split (suc n) (d ∷ ds) = by-bool (ltb (valueOf d) 16) (λ t. rw t (digits-split n ds)) (λ f. rw f)
 
 pub bytes-are : (ds : List ℕ) → allDigits ds ≡ true → allBytes (bytesOf ds) ≡ true
 unfolding bytesOf allBytes

@@ -1,2 +1,4 @@
 pub mod OneDigit
 pub mod Fields
+pub mod Either
+pub mod Eights

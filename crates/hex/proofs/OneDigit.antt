@@ -1,4 +1,5 @@
--- Laws of a digit: what `valueOf` is in each range, that value and digit undo each other, the fault of a digit, and the byte of two. Assumes nothing.
+-- Laws of a digit: what `valueOf` is in each range, that value and digit undo each other, the fault of a digit, its
+-- capital, and the byte of two. Assumes nothing.
 use mathlib.Core.Path.{_≡_, ap, _∙_, sym}
 use mathlib.Core.Logic.{_⊎_, inl, inr, ⊎-elim}
 use Prim.Native.Nat.{ℕ, _+_, _-_, _*_, _/_, _%_, _≤_, _<_}
@@ -7,7 +8,7 @@ use lib.Dec.{leb}
 use borrow.Author.Tests.{le-leb, lt-leb, lt-ltb, le-ltb}
 use Rattle.laws.proofs.Split.{by-lt, and-right-false}
 use Rattle.hex.specs.Ways.{faultOf}
-use Rattle.hex.specs.Hex.{valueOf, digitOf, byteOf}
+use Rattle.hex.specs.Hex.{valueOf, digitOf, byteOf, capitalOf}
 
 value-low : (d : ℕ) → 48 ≤ d → d < 58 → valueOf d ≡ d - 48
 unfolding valueOf
@@ -128,10 +129,55 @@ pub fault-above : (d : ℕ) → 71 ≤ d → faultOf d ≡ 1
 unfolding faultOf
 fault-above d h = rw (value-above d h)
 
--- the value of a digit, without a test
+-- the capital of a small letter that is a digit, and of any other byte
+pub capital-small : (d : ℕ) → 97 ≤ d → d < 103 → capitalOf d ≡ d - 32
+unfolding capitalOf
+capital-small d h k =
+    let n : d ≤ 102 = omega arith in
+    rw (le-leb 97 d h, le-leb d 102 n)
+
+pub capital-below : (d : ℕ) → d < 97 → capitalOf d ≡ d
+unfolding capitalOf
+capital-below d h = rw (lt-leb 97 d h)
+
+pub capital-above : (d : ℕ) → 103 ≤ d → capitalOf d ≡ d
+unfolding capitalOf
+capital-above d h = rw (lt-leb d 102 h, and-right-false (leb 97 d))
+
+-- a digit is its own capital
+pub capital-digit : (d : ℕ) → valueOf d < 16 → capitalOf d ≡ d
+capital-digit d v = capital-below d (⊎-elim (λ r. let h : d < 97 = omega arith in h) (λ r. let h : d < 97 = omega arith in h) (digit-ranges d v))
+
+-- the bytes that are digits in either case: 0 to 9, A to F, and a to f
+either-ranges : (d : ℕ) → valueOf (capitalOf d) < 16 → (((48 ≤ d) × (d < 58)) ⊎ ((65 ≤ d) × (d < 71))) ⊎ ((97 ≤ d) × (d < 103))
+either-ranges d v =
+    by-lt d 97
+    (λ h. let w : valueOf d < 16 = rw (capital-below d h) at v in inl (digit-ranges d w))
+    (λ h. by-lt d 103 (λ k. inr (h, k)) (λ k. let e : valueOf (capitalOf d) ≡ 16 = ap valueOf (capital-above d k) ∙ value-above d (omega arith) in absurd (omega arith)))
+
+-- the value of a digit in either case, without a test
+pub either-half-value : (d : ℕ) → valueOf (capitalOf d) < 16 → d % 16 + d / 64 * 9 ≡ valueOf (capitalOf d)
+either-half-value d v =
+    ⊎-elim
+    (⊎-elim
+    (λ r. let h : d < 97 = omega arith in let e : valueOf (capitalOf d) ≡ d - 48 = ap valueOf (capital-below d h) ∙ value-low d (r .0) (r .1) in omega arith)
+    (λ r. let h : d < 97 = omega arith in let e : valueOf (capitalOf d) ≡ d - 55 = ap valueOf (capital-below d h) ∙ value-high d (r .0) (r .1) in omega arith))
+    (λ r.
+    let a : 65 ≤ d - 32 = omega arith in
+    let b : d - 32 < 71 = omega arith in
+    let e : valueOf (capitalOf d) ≡ d - 32 - 55 = ap valueOf (capital-small d (r .0) (r .1)) ∙ value-high (d - 32) a b in
+    omega arith)
+    (either-ranges d v)
+
 pub half-value : (d : ℕ) → valueOf d < 16 → d % 16 + d / 64 * 9 ≡ valueOf d
 half-value d v =
-    ⊎-elim (λ r. let e : valueOf d ≡ d - 48 = value-low d (r .0) (r .1) in omega arith) (λ r. let e : valueOf d ≡ d - 55 = value-high d (r .0) (r .1) in omega arith) (digit-ranges d v)
+    let e = capital-digit d v in
+    let w : valueOf (capitalOf d) < 16 = rw e v in
+    either-half-value d w ∙ ap valueOf e
+
+-- no digit in either case is a byte below 48
+pub either-above : (d : ℕ) → valueOf (capitalOf d) < 16 → 48 ≤ d
+either-above d v = ⊎-elim (⊎-elim (λ r. r .0) (λ r. let h : 48 ≤ d = omega arith in h)) (λ r. let h : 48 ≤ d = omega arith in h) (either-ranges d v)
 
 pub byte-digits : (x : ℕ) → x < 256 → byteOf (digitOf (x / 16)) (digitOf x) ≡ x
 unfolding byteOf

@@ -21,6 +21,15 @@ unfoldable pub allDigits : List ℕ → Bool
 allDigits [] = true
 allDigits (d ∷ ds) = ltb (valueOf d) 16 && allDigits ds
 
+-- document 02, CR 1, "digits in either case": the capital of a small letter that is a digit; any other byte stays
+unfoldable pub capitalOf : ℕ → ℕ
+capitalOf d = cond (leb 97 d && leb d 102) (d - 32) d
+
+-- a field in capitals
+unfoldable pub capitals : List ℕ → List ℕ
+capitals [] = []
+capitals (d ∷ ds) = capitalOf d ∷ capitals ds
+
 -- the bytes that a field spells, two digits a byte
 unfoldable pub bytesOf : List ℕ → List ℕ
 bytesOf [] = []

@@ -1,24 +1,15 @@
 -- `hex::byte` meets its contract. Assumes nothing.
 use Rattle.hex.specs.Hex.{byteOf}
-use borrow.Author.Needs.{needs}
+use Rattle.hex.proofs.OneDigit.{capital-digit}
+use mathlib.Core.Path.{ap₂, _∙_}
 use Rattle.hex.proofs.byte.Statement.{statement}
 use Rattle.hex.proofs.byte.Tie as tie
 
-nibble-requires : tie.Need-nibble-requires
-nibble-requires c κs = search needs
-
-mul-result : tie.Need-mul-result
-mul-result c = search needs
-
-nibble-requires-2 : tie.Need-nibble-requires-2
-nibble-requires-2 c κs = search needs
-
-add-result : tie.Need-add-result
-add-result c = search needs
+either-byte-requires : tie.Need-either-byte-requires
+either-byte-requires c κs = (rw (capital-digit _ (c .pre .0)) (c .pre .0), rw (capital-digit _ (c .pre .1)) (c .pre .1))
 
 returns : tie.Need-returns
-unfolding byteOf
-returns c = simp (c .nibble2 .ensures .0, c .before .nibble .ensures .0)
+returns c = c .either-byte .ensures ∙ ap₂ byteOf (capital-digit _ (c .before .pre .0)) (capital-digit _ (c .before .pre .1))
 
 pub byte-spec : {M : Type 1} → statement M
-byte-spec = tie.close (tie.spec nibble-requires mul-result nibble-requires-2 add-result returns)
+byte-spec = tie.close (tie.spec either-byte-requires returns)
