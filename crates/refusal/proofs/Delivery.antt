@@ -55,7 +55,7 @@ answered-bytes (admission.Refused r) xs out n e = let z : numberOf r ≡ 0 = ap 
 
 answered-refused : (a : Admission) (xs out y : List ℕ) (r : Refusal) → answered a xs out ≡ delivery (Refused r) y → a ≡ admission.Refused r
 answered-refused admission.Admitted xs out y r e = let z = delivery-injective (Bytes (length xs)) (Refused r) (put 0 xs out) y e .0 in counted-refused admission.Admitted (length xs) r z
-answered-refused (admission.Refused s) xs out y r e = counted-refused (admission.Refused s) 0 r (delivery-injective (Refused s) (Refused r) out y e .0)
+answered-refused (admission.Refused s) xs out y r e = counted-refused (admission.Refused s) 0 r (delivery-injective (Refused s) (Refused r) _ y e .0)
 
 -- what is delivered, by what the refusals in front of row 11 come to
 module _ (rs : List (Refusal × Bool)) (xs out : List ℕ) where

@@ -5,7 +5,7 @@ use Prim.Native.Nat.{ℕ, _≤_}
 use native.Mathlib.Omega.{arith}
 use lib.Dec.{eqb}
 use Rattle.refusal.specs.declared.Refusal.{Refusal}
-use Rattle.refusal.specs.declared.Refusal.the-variants.{Memory, Block, Reply, State, Request, Work, Image, Card, Text, Line, Output, Protected, File}
+use Rattle.refusal.specs.declared.Refusal.the-variants.{Memory, Block, Reply, State, Request, Work, Image, Card, Text, Line, Output, Protected, File, Record, Outside, Twice, Unended, Empty}
 use Rattle.refusal.specs.Refusal.{numberOf, lineNamed}
 
 -- the refusal of a number and a line
@@ -22,7 +22,12 @@ refusalAt n line =
     (cond (eqb n 9) Text
     (cond (eqb n 10) (Line line)
     (cond (eqb n 11) Output
-    (cond (eqb n 12) Protected File)))))))))))
+    (cond (eqb n 12) Protected
+    (cond (eqb n 13) File
+    (cond (eqb n 20) (Record line)
+    (cond (eqb n 21) Outside
+    (cond (eqb n 22) Twice
+    (cond (eqb n 23) Unended Empty))))))))))))))))
 
 pub refusal-back : (r : Refusal) → refusalAt (numberOf r) (lineNamed r) ≡ r
 unfolding refusalAt
@@ -39,6 +44,11 @@ refusal-back (Line line) = refl
 refusal-back Output = refl
 refusal-back Protected = refl
 refusal-back File = refl
+refusal-back (Record line) = refl
+refusal-back Outside = refl
+refusal-back Twice = refl
+refusal-back Unended = refl
+refusal-back Empty = refl
 
 pub refusal-injective : (r s : Refusal) → numberOf r ≡ numberOf s → lineNamed r ≡ lineNamed s → r ≡ s
 refusal-injective r s n l = sym (refusal-back r) ∙ ap₂ refusalAt n l ∙ refusal-back s
@@ -58,3 +68,8 @@ number-some (Line line) = omega arith
 number-some Output = omega arith
 number-some Protected = omega arith
 number-some File = omega arith
+number-some (Record line) = omega arith
+number-some Outside = omega arith
+number-some Twice = omega arith
+number-some Unended = omega arith
+number-some Empty = omega arith

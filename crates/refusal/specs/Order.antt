@@ -1,4 +1,4 @@
--- The order of refusals, and the one that a call gives. Document 01, "Refusal numbers", the sentence over the table. Assumes nothing.
+-- The order of refusals, and the one that a call gives. Document 01, "Refusal numbers", the sentence over the table; document 02, CR 1. Assumes nothing.
 use mathlib.Core.Bool.{Bool, true, false, cond, _&&_, _||_}
 use mathlib.Core.List.{List, [], _∷_}
 use Prim.Native.Nat.{ℕ}
@@ -14,9 +14,9 @@ firstOf [] = Admitted
 firstOf ((r, false) ∷ xs) = firstOf xs
 firstOf ((r, true) ∷ xs) = Refused r
 
--- "this order": the table's, from top to bottom
+-- "this order": the table's, from top to bottom; CR 1: 20 to 24, each before the next
 abbrev pub rows : List ℕ
-rows = 1 ∷ 2 ∷ 3 ∷ 4 ∷ 5 ∷ 6 ∷ 7 ∷ 8 ∷ 9 ∷ 10 ∷ 11 ∷ 12 ∷ 13 ∷ []
+rows = 1 ∷ 2 ∷ 3 ∷ 4 ∷ 5 ∷ 6 ∷ 7 ∷ 8 ∷ 9 ∷ 10 ∷ 11 ∷ 12 ∷ 13 ∷ 20 ∷ 21 ∷ 22 ∷ 23 ∷ 24 ∷ []
 
 -- going down these numbers, j is met, and k not before it
 unfoldable pub met : List ℕ → ℕ → ℕ → Bool

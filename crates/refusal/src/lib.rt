@@ -17,6 +17,11 @@ pub enum Refusal {
     Output,
     Protected,
     File,
+    Record(usize),
+    Outside,
+    Twice,
+    Unended,
+    Empty,
 }
 
 // Whether a call is taken.
@@ -50,6 +55,11 @@ impl Refusal {
             Refusal::Output => 11,
             Refusal::Protected => 12,
             Refusal::File => 13,
+            Refusal::Record(_) => 20,
+            Refusal::Outside => 21,
+            Refusal::Twice => 22,
+            Refusal::Unended => 23,
+            Refusal::Empty => 24,
         }
     }
 
@@ -71,6 +81,11 @@ impl Refusal {
             Refusal::Output => 0,
             Refusal::Protected => 0,
             Refusal::File => 0,
+            Refusal::Record(line) => line,
+            Refusal::Outside => 0,
+            Refusal::Twice => 0,
+            Refusal::Unended => 0,
+            Refusal::Empty => 0,
         }
     }
 }
