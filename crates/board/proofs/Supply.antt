@@ -1,38 +1,45 @@
 -- Laws of `supplied`: what each test comes to, and what an admitted call was supplied with. Assumes nothing.
 use mathlib.Core.Path.{_≡_, _∙_}
-use mathlib.Core.Bool.{false, _||_}
+use mathlib.Core.Bool.{true, false}
 use Prim.Native.Nat.{ℕ, _≤_, _<_}
 use native.Mathlib.Omega.{arith}
 use lib.Dec.{eqb, ltb}
-use borrow.Author.Tests.{eq-eqb, ne-eqb, lt-ltb, le-ltb, eqb-true, eqb-false, ltb-false, not-false}
+use borrow.Author.Tests.{eq-eqb, ne-eqb, le-ltb, eqb-true, eqb-false, ltb-false, not-false}
 use Rattle.laws.proofs.Split.{or-false}
 use Rattle.refusal.specs.declared.Refusal.the-variants.{Image, Card}
 use Rattle.refusal.specs.declared.Admission.the-variants.{Admitted, Refused}
 use Rattle.refusal.proofs.First.{first-here, first-on, first-none, first-exactly}
 use Rattle.board.specs.Layout.{flashBytes, optionBytes}
-use Rattle.board.specs.Supply.{supplyRefusals, supplied}
+use Rattle.board.specs.Supply.{unfit, supplyRefusals, supplied}
 
 module _ (n image card : ℕ) where
-  pub image-empty : image ≡ 0 → supplied n image card ≡ Refused Image
+  pub image-unfit : unfit n image ≡ true → supplied n image card ≡ Refused Image
   unfolding supplied
-  image-empty e = first-here _ _ _ (rw e)
+  image-unfit e = first-here _ _ _ e
 
-  module _ (flash : ℕ) (is : flash ≡ flashBytes n) (some : image ≡ 0 → ⊥) where
-    pub image-long : flash < image → supplied n image card ≡ Refused Image
+  module _ (fit : unfit n image ≡ false) where
+    pub card-odd : (card ≡ optionBytes → ⊥) → supplied n image card ≡ Refused Card
     unfolding supplied
-    image-long h = first-here _ _ _ (rw (ne-eqb image 0 some, ← is, lt-ltb flash image h))
+    card-odd odd = first-on _ _ _ fit ∙ first-here _ _ _ (rw (ne-eqb card optionBytes odd))
 
-    module _ (most : image ≤ flash) where
-      image-good : (eqb image 0 || ltb (flashBytes n) image) ≡ false
-      image-good = rw (ne-eqb image 0 some, ← is, le-ltb flash image most)
+    pub supply-good : card ≡ optionBytes → supplied n image card ≡ Admitted
+    unfolding supplied
+    supply-good good = first-on _ _ _ fit ∙ first-on _ _ _ (rw (eq-eqb card optionBytes good)) ∙ first-none
 
-      pub card-odd : (card ≡ optionBytes → ⊥) → supplied n image card ≡ Refused Card
-      unfolding supplied
-      card-odd odd = first-on _ _ _ image-good ∙ first-here _ _ _ (rw (ne-eqb card optionBytes odd))
+-- the length of an image that is fit
+pub fit-some : (n image : ℕ) → unfit n image ≡ false → (1 ≤ image) × (image ≤ flashBytes n)
+fit-some n image e =
+    let length = or-false (eqb image 0) (ltb (flashBytes n) image) e in
+    let z : image ≡ 0 → ⊥ = eqb-false _ _ (length .0) in
+    (one image z, ltb-false _ _ (length .1))
+  where
+    one : (k : ℕ) → (k ≡ 0 → ⊥) → 1 ≤ k
+    one k z = omega arith
 
-      pub supply-good : card ≡ optionBytes → supplied n image card ≡ Admitted
-      unfolding supplied
-      supply-good good = first-on _ _ _ image-good ∙ first-on _ _ _ (rw (eq-eqb card optionBytes good)) ∙ first-none
+pub some-fit : (n image : ℕ) → 1 ≤ image → image ≤ flashBytes n → unfit n image ≡ false
+some-fit n image some most =
+    let z : image ≡ 0 → ⊥ = λ e. omega arith in
+    rw (ne-eqb image 0 z, le-ltb (flashBytes n) image most)
 
 -- an image of the right length, and a card of the right length
 pub record Supplied (n image card : ℕ) : Type 0 where
@@ -44,9 +51,5 @@ pub supplied-parts : (n image card : ℕ) → supplied n image card ≡ Admitted
 unfolding supplied
 supplied-parts n image card e =
     let none = first-exactly (supplyRefusals n image card) Admitted .0 e in
-    let length = or-false (eqb image 0) (ltb (flashBytes n) image) (none .0) in
-    let z : image ≡ 0 → ⊥ = eqb-false _ _ (length .0) in
-    record { some = one image z; most = ltb-false _ _ (length .1); options = eqb-true _ _ (not-false _ (none .1 .0)) }
-  where
-    one : (k : ℕ) → (k ≡ 0 → ⊥) → 1 ≤ k
-    one k z = omega arith
+    let fit = fit-some n image (none .0) in
+    record { some = fit .0; most = fit .1; options = eqb-true _ _ (not-false _ (none .1 .0)) }

@@ -10,6 +10,10 @@ use Rattle.board.specs.Layout.{flashFirst, flashBytes, ramFirst, ramByte
 unfoldable pub spans : ℕ → ℕ → ℕ → ℕ → Bool
 spans first bytes address count = leb first address && leb (address - first + count) bytes
 
+-- `count` addresses from `address` on lie in flash
+unfoldable pub inFlash : ℕ → ℕ → ℕ → Bool
+inFlash n address count = spans flashFirst (flashBytes n) address count
+
 -- "Read and write checks", 2: the region that the whole span lies in, if there is one, and where its first byte stands in the memory buffer
 unfoldable pub placeOf : ℕ → ℕ → ℕ → Place
 placeOf n address count =

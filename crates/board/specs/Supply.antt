@@ -9,10 +9,14 @@ use Rattle.refusal.specs.declared.Admission.{Admission}
 use Rattle.refusal.specs.Order.{firstOf}
 use Rattle.board.specs.Layout.{flashBytes, optionBytes}
 
+-- row 7, for the length of an image
+abbrev pub unfit : ℕ → ℕ → Bool
+unfit n image = eqb image 0 || ltb (flashBytes n) image
+
 -- rows 7 and 8, for the lengths of image and card
 abbrev pub supplyRefusals : ℕ → ℕ → ℕ → List (Refusal × Bool)
 supplyRefusals n image card =
-    (Image, eqb image 0 || ltb (flashBytes n) image)
+    (Image, unfit n image)
     ∷ (Card, not (eqb card optionBytes))
     ∷ []
 

@@ -2,8 +2,8 @@
 ghost use mathlib.Core.Path.{_≡_};
 ghost use lib.ListN.{length};
 ghost use Rattle.board.specs.Layout.{pagesOf, flashBytes, optionsFrom, memoryBytes, defaults};
-ghost use Rattle.board.specs.Supply.{supplied};
-ghost use Rattle.board.specs.Span.{placeOf, spans};
+ghost use Rattle.board.specs.Supply.{unfit, supplied};
+ghost use Rattle.board.specs.Span.{placeOf, spans, inFlash};
 use refusal::Admission;
 use refusal::Refusal;
 
@@ -62,20 +62,31 @@ impl Board {
         self.pages as usize * Board::PAGE + Board::RAM_BYTES + Board::OPTION_BYTES
     }
 
+    // Has an image of this length no bytes, or more than flash?
+    pub fn unfit(self, image: usize) -> bool
+        ensures { λ r. ⌜ r ≡ unfit (self .pages) image ⌝ }
+    {
+        (image == 0) | (self.flash_bytes() < image)
+    }
+
     // The refusals of an image and a card of these lengths, in their order.
     pub fn supplied(self, image: usize, card: usize) -> Admission
         ensures { λ r. ⌜ r ≡ supplied (self .pages) image card ⌝ }
     {
-        if image == 0 {
-            return Admission::Refused(Refusal::Image);
-        }
-        if self.flash_bytes() < image {
+        if self.unfit(image) {
             return Admission::Refused(Refusal::Image);
         }
         if card != Board::OPTION_BYTES {
             return Admission::Refused(Refusal::Card);
         }
         Admission::Admitted
+    }
+
+    // Do the `count` addresses from `address` on lie in flash?
+    pub fn in_flash(self, address: u64, count: u64) -> bool
+        ensures { λ r. ⌜ r ≡ inFlash (self .pages) address count ⌝ }
+    {
+        within(Board::FLASH, self.flash_bytes(), address, count)
     }
 
     // Which region the `count` addresses from `address` on lie in.
