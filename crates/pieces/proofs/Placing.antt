@@ -1,0 +1,173 @@
+-- Laying a piece: its refusals, and that all holds with it. Assumes nothing.
+use mathlib.Core.Path.{_≡_, refl, ap, ap₂, _∙_, sym}
+use mathlib.Core.Bool.{Bool, true, false, not, cond, _&&_, _||_}
+use mathlib.Core.List.{List, [], _∷_}
+use Prim.Native.Nat.{ℕ, zero, suc, _+_, _-_, _*_, _≤_, _<_}
+use native.Mathlib.Omega.{arith}
+use native.Mathlib.Nat.{add-suc, suc-add}
+use lib.Dec.{eqb, leb, ltb}
+use lib.ListN.{length, getD}
+use borrow.Author.Tests.{eq-eqb, ne-eqb, lt-ltb, le-ltb, le-leb, lt-leb, not-true, not-false}
+use Rattle.laws.specs.Bytes.{put}
+use Rattle.laws.proofs.Bytes.{put-length}
+use Rattle.laws.proofs.Places.{put-before, put-in, put-after}
+use Rattle.laws.proofs.Split.{by-bool, by-lt, and-right-false}
+use Rattle.bits.specs.Bits.{bitAt, anyFrom, someSet, within, Marked}
+use Rattle.bits.proofs.Bits.{some-set-by, within-in, within-before, within-behind}
+use Rattle.refusal.specs.declared.Refusal.the-variants.{Outside, Twice}
+use Rattle.refusal.specs.declared.Admission.the-variants.{Admitted, Refused}
+use Rattle.refusal.specs.Order.{firstOf}
+use Rattle.refusal.proofs.First.{first-here, first-on, first-none}
+use Rattle.board.specs.Layout.{flashFirst, flashBytes}
+use Rattle.board.specs.Span.{spans, inFlash}
+use Rattle.board.proofs.Span.{spans-ends}
+use Rattle.pieces.specs.Image.{Piece, gives, given, byteAt, larger, reach}
+use Rattle.pieces.specs.Refusals.{withPiece, pieceRefusals, none}
+use Rattle.pieces.specs.Ways.{Holds}
+
+-- what each test comes to
+module _ (n a : ℕ) (xs : List ℕ) (ps : List Piece) where
+  pub none-laid : length xs ≡ 0 → (firstOf (pieceRefusals n a xs ps) ≡ Admitted) × (withPiece a xs ps ≡ ps)
+  unfolding anyFrom withPiece
+  none-laid z =
+      let e : (not (eqb (length xs) 0) && not (inFlash n a (length xs))) ≡ false = rw z in
+      let f : anyFrom (given ps) a (length xs) ≡ false = rw z in
+      (first-on _ _ _ e ∙ first-on _ _ _ f ∙ first-none, rw z)
+
+  module _ (some : length xs ≡ 0 → ⊥) where
+    pub outside : inFlash n a (length xs) ≡ false → firstOf (pieceRefusals n a xs ps) ≡ Refused Outside
+    outside o = first-here _ _ _ (rw (ne-eqb (length xs) 0 some, o))
+
+    inside : inFlash n a (length xs) ≡ true → (not (eqb (length xs) 0) && not (inFlash n a (length xs))) ≡ false
+    inside o = rw (ne-eqb (length xs) 0 some, o)
+
+    pub twice : inFlash n a (length xs) ≡ true → anyFrom (given ps) a (length xs) ≡ true → firstOf (pieceRefusals n a xs ps) ≡ Refused Twice
+    twice o t = first-on _ _ _ (inside o) ∙ first-here _ _ _ t
+
+    pub fresh : inFlash n a (length xs) ≡ true → anyFrom (given ps) a (length xs) ≡ false → firstOf (pieceRefusals n a xs ps) ≡ Admitted
+    fresh o t = first-on _ _ _ (inside o) ∙ first-on _ _ _ t ∙ first-none
+
+    pub with-piece : withPiece a xs ps ≡ record { address = a; bytes = xs } ∷ ps
+    unfolding withPiece
+    with-piece = rw (ne-eqb (length xs) 0 some)
+
+-- where a span in flash lies
+pub flash-ends : (n a count : ℕ) → inFlash n a count ≡ true → (flashFirst ≤ a) × (a - flashFirst + count ≤ flashBytes n)
+unfolding inFlash
+flash-ends n a count o = spans-ends flashFirst (flashBytes n) a count o
+
+-- a test at places counted from k on
+any-shift : (f : ℕ → Bool) (k from count : ℕ) → anyFrom (λ (i : ℕ). f (k + i)) from count ≡ anyFrom f (k + from) count
+unfolding anyFrom
+any-shift f k from zero = refl
+any-shift f k from (suc count) = ap (λ (b : Bool). f (k + from) || b) (any-shift f k (suc from) count ∙ ap (λ (i : ℕ). anyFrom f i count) (add-suc k from))
+
+within-shift : (k from count i : ℕ) → within (k + from) count (k + i) ≡ within from count i
+within-shift k from count i =
+    by-lt i from (λ h. let g : k + i < k + from = omega arith in within-before (k + from) count (k + i) g ∙ sym (within-before from count i h))
+    (λ h.
+    by-lt i (from + count)
+    (λ l.
+    let a : k + from ≤ k + i = omega arith in
+    let b : k + i < k + from + count = omega arith in
+    within-in (k + from) count (k + i) a b ∙ sym (within-in from count i h l))
+    (λ l.
+    let b : k + from + count ≤ k + i = omega arith in
+    within-behind (k + from) count (k + i) b ∙ sym (within-behind from count i l)))
+
+or-swap : (a b : Bool) → (a || b) ≡ (b || a)
+or-swap true true = refl
+or-swap true false = refl
+or-swap false true = refl
+or-swap false false = refl
+
+-- a piece in flash, over what holds
+module _ {n : ℕ} {ps : List Piece} {bits image : List ℕ} {end : ℕ} (h : Holds n ps bits image end) (a : ℕ) (xs : List ℕ) (o : inFlash n a (length xs) ≡ true) (from to : ℕ) (is : from ≡ a - flashFirst) (stops : to ≡ from + length xs) where
+  place : flashFirst + from ≡ a
+  place = let e = flash-ends n a (length xs) o in omega arith
+
+  fits : from + length xs ≤ flashBytes n
+  fits = let e = flash-ends n a (length xs) o in omega arith
+
+  pub span-fits : (from ≤ to) × (to ≤ length bits * 8)
+  span-fits =
+      let f = fits in
+      let r = h .room in
+      (omega arith, omega arith)
+
+  -- the bits tell whether one of its bytes was given
+  pub bits-tell-given : someSet from (to - from) bits ≡ anyFrom (given ps) a (length xs)
+  bits-tell-given =
+      let f = fits in
+      let k : to - from ≡ length xs = omega arith in
+      ap (λ (m : ℕ). someSet from m bits) k
+      ∙ some-set-by from (length xs) bits (λ (i : ℕ). given ps (flashFirst + i)) (λ i l u. h .marks i (let g : i < flashBytes n = omega arith in g))
+      ∙ any-shift (given ps) flashFirst from (length xs)
+      ∙ ap (λ (m : ℕ). anyFrom (given ps) m (length xs)) place
+
+  module _ (some : length xs ≡ 0 → ⊥) (bits′ image′ : List ℕ) (marked : Marked from (to - from) bits bits′) (laid : image′ ≡ put from xs image) where
+    abbrev piece : Piece
+    piece = record { address = a; bytes = xs }
+
+    pub image-fits : from + length xs ≤ length image
+    image-fits = let s = h .size in let f = fits in omega arith
+
+    marks-after : (i : ℕ) → i < flashBytes n → bitAt bits′ i ≡ given (piece ∷ ps) (flashFirst + i)
+    unfolding given gives
+    marks-after i l =
+        let k : to - from ≡ length xs = omega arith in
+        marked .bits i
+        ∙ ap₂ _||_ (h .marks i l) (ap (λ (m : ℕ). within from m i) k ∙ sym (within-shift flashFirst from (length xs) i) ∙ ap (λ (m : ℕ). within m (length xs) (flashFirst + i)) place)
+        ∙ or-swap (given ps (flashFirst + i)) (within a (length xs) (flashFirst + i))
+
+    bytes-after : (i : ℕ) → i < flashBytes n → getD image′ i 0 ≡ byteAt (piece ∷ ps) (flashFirst + i)
+    unfolding byteAt gives
+    bytes-after i l =
+        let p = place in
+        by-lt i from
+        (λ b.
+        let w : within a (length xs) (flashFirst + i) ≡ false = within-before a (length xs) (flashFirst + i) (let g : flashFirst + i < a = omega arith in g) in
+        rw (laid, put-before from xs image image-fits i b, w) (h .bytes i l))
+        (λ b.
+        by-lt i (from + length xs)
+        (λ u.
+        let w : within a (length xs) (flashFirst + i) ≡ true = within-in a (length xs) (flashFirst + i) (let g : a ≤ flashFirst + i = omega arith in g) (let g : flashFirst + i < a + length xs = omega arith in g) in
+        let e : flashFirst + i - a ≡ i - from = omega arith in
+        rw (laid, put-in from xs image image-fits i b u, w, e))
+        (λ u.
+        let w : within a (length xs) (flashFirst + i) ≡ false = within-behind a (length xs) (flashFirst + i) (let g : a + length xs ≤ flashFirst + i = omega arith in g) in
+        rw (laid, put-after from xs image image-fits i u, w) (h .bytes i l)))
+
+    pub holds-with : Holds n (piece ∷ ps) bits′ image′ (larger end to)
+    unfolding reach
+    holds-with =
+        let f = fits in
+        let m = h .most in
+        let e = h .ends in
+        let p = place in
+        let k = marked .kept in
+        let r = h .room in
+        let s = h .size in
+        let q = put-length from xs image image-fits in
+        let some′ : 1 ≤ length xs = one (length xs) some in
+        record {
+          room = let g : flashBytes n ≤ length bits′ * 8 = omega arith in g;
+          size = ap length laid ∙ q ∙ s;
+          marks = marks-after;
+          bytes = bytes-after;
+          ends = by-lt end to
+              (λ b.
+              let c : reach ps < a + length xs = omega arith in
+              let d : flashFirst + to ≡ a + length xs = omega arith in
+              rw (lt-ltb end to b, lt-ltb (reach ps) (a + length xs) c) d)
+              (λ b.
+              let c : a + length xs ≤ reach ps = omega arith in
+              rw (le-ltb end to b, le-ltb (reach ps) (a + length xs) c) e);
+          most = by-lt end to (λ b. rw (lt-ltb end to b) (let g : to ≤ flashBytes n = omega arith in g)) (λ b. rw (le-ltb end to b) m);
+          some = by-lt end to
+              (λ b. rw (lt-ltb end to b, ne-eqb to 0 (λ z. omega arith)))
+              (λ b. rw (le-ltb end to b, ne-eqb end 0 (λ z. omega arith)));
+        }
+      where
+        one : (k : ℕ) → (k ≡ 0 → ⊥) → 1 ≤ k
+        one k z = omega arith

@@ -1,0 +1,109 @@
+-- `pieces::place` meets its contract. Assumes nothing.
+use native.Mathlib.Omega.{arith}
+use borrow.Author.Tests.{not-true, not-false}
+use Rattle.board.specs.Span.{inFlash}
+use Rattle.pieces.proofs.Placing.{none-laid, outside, twice, fresh, with-piece, flash-ends, bits-tell-given, holds-with}
+use lib.ListN.{length}
+use mathlib.Core.Bool.{true, false, not}
+use mathlib.Core.Path.{_≡_, refl, sym, ap, _∙_}
+use borrow.Author.Needs.{needs}
+use Rattle.pieces.proofs.place.Statement.{statement}
+use Rattle.pieces.proofs.place.Tie as tie
+
+returns : tie.Need-returns
+returns c =
+    let s = c .before .before .before .before in
+    λ ps h. let p = none-laid (s .args .board .pages) (s .args .address) (s .args .bytes .now) ps (c .if1 .taken) in (p .0, rw (p .1) h)
+
+in-flash-requires : tie.Need-in-flash-requires
+in-flash-requires c κs = search needs
+
+returns-2 : tie.Need-returns-2
+returns-2 c =
+    let s = c .before .before .before .before .before .before in
+    λ ps h. outside (s .args .board .pages) (s .args .address) (s .args .bytes .now) ps (c .before .before .if1 .left) (sym (c .before .in-flash .ensures) ∙ not-true _ (c .if2 .taken))
+
+cast-from : tie.Need-cast-from
+cast-from c = search needs
+
+sub-from : tie.Need-sub-from
+sub-from c =
+    let s = c .before .before .before .before .before .before in
+    flash-ends (s .args .board .pages) (s .args .address) (length (s .args .bytes .now)) (sym (c .before .in-flash .ensures) ∙ not-false _ (c .if2 .left)) .0
+
+add-to : tie.Need-add-to
+add-to c =
+    let s = c .before .before .before .before .before .before in
+    let e = flash-ends (s .args .board .pages) (s .args .address) (length (s .args .bytes .now)) (sym (c .before .in-flash .ensures) ∙ not-false _ (c .if2 .left)) in
+    let r = s .pre .1 in
+    omega arith
+
+clear-requires : tie.Need-clear-requires
+clear-requires c κs =
+    let s = c .before .before .before .before .before .before .before in
+    let o : inFlash (s .args .board .pages) (s .args .address) (length (s .args .bytes .now)) ≡ true = sym (c .before .before .in-flash .ensures) ∙ not-false _ (c .before .if2 .left) in
+    let e = flash-ends _ _ _ o in
+    (omega arith, let r = s .pre .0 in omega arith)
+
+same-length : tie.Need-same-length
+same-length c = search needs
+
+returns-3 : tie.Need-returns-3
+returns-3 c =
+    let s = c .before .before .before .before .before .before .before .before .before in
+    let o : inFlash (s .args .board .pages) (s .args .address) (length (s .args .bytes .now)) ≡ true = sym (c .before .before .before .before .in-flash .ensures) ∙ not-false _ (c .before .before .before .if2 .left) in
+    let e = flash-ends _ _ _ o in
+    λ ps h. twice (s .args .board .pages) (s .args .address) (s .args .bytes .now) ps (c .before .before .before .before .before .if1 .left) o (sym (bits-tell-given h (s .args .address) (s .args .bytes .now) o _ _ refl refl) ∙ not-false _ (sym (c .before .clear .ensures) ∙ not-true _ (c .if3 .taken)))
+
+mark-requires : tie.Need-mark-requires
+mark-requires c κs =
+    let s = c .before .before .before .before .before .before .before .before .before .before in
+    let o : inFlash (s .args .board .pages) (s .args .address) (length (s .args .bytes .now)) ≡ true = sym (c .before .before .before .before .before .in-flash .ensures) ∙ not-false _ (c .before .before .before .before .if2 .left) in
+    let e = flash-ends _ _ _ o in
+    (omega arith, let r = s .pre .0 in omega arith)
+
+put-requires : tie.Need-put-requires
+put-requires c κs =
+    let s = c .before .before .before .before .before .before .before .before .before .before .before .before .before .before in
+    let o : inFlash (s .args .board .pages) (s .args .address) (length (s .args .bytes .now)) ≡ true = sym (c .before .before .before .before .before .before .before .before .before .in-flash .ensures) ∙ not-false _ (c .before .before .before .before .before .before .before .before .if2 .left) in
+    let e = flash-ends _ _ _ o in
+    let r = s .pre .1 in omega arith
+
+larger-requires : tie.Need-larger-requires
+larger-requires c κs = search needs
+
+same-length-2 : tie.Need-same-length-2
+same-length-2 c = search needs
+
+same-length-3 : tie.Need-same-length-3
+same-length-3 c = search needs
+
+returns-4 : tie.Need-returns-4
+returns-4 c =
+    let s = c .before .before .before .before .before .before .before .before .before .before .before .before .before .before .before .before .before .before in
+    let o : inFlash (s .args .board .pages) (s .args .address) (length (s .args .bytes .now)) ≡ true = sym (c .before .before .before .before .before .before .before .before .before .before .before .before .before .in-flash .ensures) ∙ not-false _ (c .before .before .before .before .before .before .before .before .before .before .before .before .if2 .left) in
+    let e = flash-ends _ _ _ o in
+    λ ps h.
+    let t = sym (bits-tell-given h (s .args .address) (s .args .bytes .now) o _ _ refl refl) ∙ not-true _ (sym (c .before .before .before .before .before .before .before .before .before .before .clear .ensures) ∙ not-false _ (c .before .before .before .before .before .before .before .before .before .if3 .left)) in
+    let some = c .before .before .before .before .before .before .before .before .before .before .before .before .before .before .if1 .left in
+    (fresh (s .args .board .pages) (s .args .address) (s .args .bytes .now) ps some o t, rw (c .larger .ensures, with-piece (s .args .board .pages) (s .args .address) (s .args .bytes .now) ps some) (holds-with h (s .args .address) (s .args .bytes .now) o _ _ refl refl some _ _ (c .before .before .before .before .before .before .before .mark .ensures) (c .before .before .before .put .ensures)))
+
+pub place-spec : {M : Type 1} → statement M
+place-spec =
+    tie.close
+    (tie.spec
+    returns
+    in-flash-requires
+    returns-2
+    cast-from
+    sub-from
+    add-to
+    clear-requires
+    same-length
+    returns-3
+    mark-requires
+    put-requires
+    larger-requires
+    same-length-2
+    same-length-3
+    returns-4)
