@@ -44,8 +44,24 @@ fn judge(job: &[u8], image: &[u8], card: &[u8], is_quiet: bool) {
     files::write(STDERR_FILENO, b"\n", 1);
 }
 
+// Reads the image, last of the three: a HEX text is refused only where every file could be read.
+fn hold(job: &[u8], card: &[u8], much: usize) {
+    let mut image = [0u8; IMAGE_ROOM];
+    let got = images::load(
+        STDOUT_FILENO,
+        much,
+        2,
+        b"image|image.bin|job, image and card; in HEX it is called image.hex",
+        &mut image,
+    );
+    if got.is_read && much != telling::NOTHING {
+        let count = got.count;
+        judge(job, &image[0..count], card, much == telling::LINE);
+    }
+}
+
 // Reads the card.
-fn suit(job: &[u8], image: &[u8], much: usize) {
+fn suit(job: &[u8], much: usize) {
     let mut card = [0u8; CARD_ROOM];
     let got = telling::load(
         STDOUT_FILENO,
@@ -54,24 +70,8 @@ fn suit(job: &[u8], image: &[u8], much: usize) {
         b"card|card.bin|job, image and card",
         &mut card,
     );
-    if got.is_read && much != telling::NOTHING {
-        let count = got.count;
-        judge(job, image, &card[0..count], much == telling::LINE);
-    }
-}
-
-// Reads the image.
-fn hold(job: &[u8], much: usize) {
-    let mut image = [0u8; IMAGE_ROOM];
-    let got = telling::load(
-        STDOUT_FILENO,
-        much,
-        2,
-        b"image|image.bin|job, image and card",
-        &mut image,
-    );
     let count = got.count;
-    suit(job, &image[0..count], after(much, got));
+    hold(job, &card[0..count], after(much, got));
 }
 
 // Reads the job. All three files are asked for, whatever comes of one: a call without files then costs what a call
@@ -86,7 +86,7 @@ fn check(much: usize) {
         &mut job,
     );
     let count = got.count;
-    hold(&job[0..count], after(much, got));
+    suit(&job[0..count], after(much, got));
 }
 
 // Is there one word behind the names, and is it `quiet`? A longer word has no room, and counts as one of no bytes.

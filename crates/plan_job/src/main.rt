@@ -28,8 +28,24 @@ fn perform(image: &[u8], card: &[u8]) {
     }
 }
 
-// Reads the card of a board for an image.
-fn suit(image: &[u8]) {
+// Reads the image for a board's card, the last of the two: a HEX text is refused only where both files could be read.
+fn make(card: &[u8]) {
+    let mut image = [0u8; IMAGE_ROOM];
+    let got = images::load(
+        STDERR_FILENO,
+        telling::WORDS,
+        1,
+        b"image|image.bin|image and card; in HEX it is called image.hex",
+        &mut image,
+    );
+    if got.is_read {
+        let count = got.count;
+        perform(&image[0..count], card);
+    }
+}
+
+// Reads the card.
+fn suit() {
     let mut card = [0u8; CARD_ROOM];
     let got = telling::load(
         STDERR_FILENO,
@@ -40,29 +56,13 @@ fn suit(image: &[u8]) {
     );
     if got.is_read {
         let count = got.count;
-        perform(image, &card[0..count]);
-    }
-}
-
-// Reads the image.
-fn make() {
-    let mut image = [0u8; IMAGE_ROOM];
-    let got = telling::load(
-        STDERR_FILENO,
-        telling::WORDS,
-        1,
-        b"image|image.bin|image and card",
-        &mut image,
-    );
-    if got.is_read {
-        let count = got.count;
-        suit(&image[0..count]);
+        make(&card[0..count]);
     }
 }
 
 fn main() {
     if os::arg_count() <= NAMED {
-        make();
+        suit();
         return;
     }
     refuse::arguments();
