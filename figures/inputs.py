@@ -1,6 +1,7 @@
-"""Makes the inputs of the figures: inputs.py FOLDER writes FOLDER/NAME/{job.txt,image.bin,card.bin}.
+"""Makes the inputs of the figures: inputs.py FOLDER writes FOLDER/NAME/{job.txt,image.bin,card.bin} for the
+checker and FOLDER/NAME/image.hex for the reader of Intel HEX.
 
-Every run makes the same bytes. A name that ends in `-half` is a job of half the length.
+Every run makes the same bytes. A name that ends in `-half` is a text of half the length.
 """
 
 import hashlib
@@ -9,6 +10,7 @@ import sys
 
 PAGE = 1024
 FLASH = 0x08000000
+IMAGE = hashlib.shake_128(b"figures").digest(16 * PAGE)
 DEFAULT_OPTIONS = b"\xAA" + b"\xFF" * 15
 
 
@@ -37,26 +39,52 @@ def plan(image):
     return text + command(0x21, FLASH) + download(0) + STATUS
 
 
-def inputs():
+def jobs():
     """Name, job text, image."""
-    image = hashlib.shake_128(b"figures").digest(16 * PAGE)
-    yield "plan", plan(image), image
-    yield "plan-half", plan(image[: 8 * PAGE]), image[: 8 * PAGE]
-    yield "erases", 900 * command(0x41), image
-    yield "erases-half", 450 * command(0x41), image
-    yield "status", 3000 * STATUS, image
-    yield "status-half", 1500 * STATUS, image
-    yield "empty", "", image
+    half = IMAGE[: 8 * PAGE]
+    yield "plan", plan(IMAGE), IMAGE
+    yield "plan-half", plan(half), half
+    yield "erases", 900 * command(0x41), IMAGE
+    yield "erases-half", 450 * command(0x41), IMAGE
+    yield "status", 3000 * STATUS, IMAGE
+    yield "status-half", 1500 * STATUS, IMAGE
+    yield "empty", "", IMAGE
+
+
+def record(kind, offset, data=b""):
+    content = bytes([len(data)]) + offset.to_bytes(2, "big") + bytes([kind]) + data
+    return f":{content.hex().upper()}{-sum(content) % 256:02X}\n"
+
+
+def hex_of(image):
+    """The HEX writer's text for an image."""
+    data = (record(0, at, image[at : at + 16]) for at in range(0, len(image), 16))
+    return record(4, 0, (FLASH >> 16).to_bytes(2, "big")) + "".join(data) + record(1, 0)
+
+
+def hexes():
+    """Name, HEX text."""
+    yield "hex-one", hex_of(IMAGE[:1])
+    yield "hex", hex_of(IMAGE)
+    yield "hex-half", hex_of(IMAGE[: 8 * PAGE])
+    yield "hex-small", hex_of(IMAGE).lower().replace("\n", "\r\n")
+
+
+def write(folder, name, files):
+    place = os.path.join(folder, name)
+    os.makedirs(place, exist_ok=True)
+    for file, content in files.items():
+        with open(os.path.join(place, file), "wb") as out:
+            out.write(content)
 
 
 def main(folder):
-    for name, text, image in inputs():
+    for name, text, image in jobs():
         assert len(text) <= 60000 and (name != "plan" or len(text) == 36078)
-        place = os.path.join(folder, name)
-        os.makedirs(place, exist_ok=True)
-        for file, content in (("job.txt", text.encode()), ("image.bin", image), ("card.bin", DEFAULT_OPTIONS)):
-            with open(os.path.join(place, file), "wb") as out:
-                out.write(content)
+        write(folder, name, {"job.txt": text.encode(), "image.bin": image, "card.bin": DEFAULT_OPTIONS})
+    for name, text in hexes():
+        assert text.lower().startswith(":020000040800f2") and text.split()[-1].upper() == ":00000001FF"
+        write(folder, name, {"image.hex": text.encode()})
 
 
 if __name__ == "__main__":
