@@ -13,10 +13,10 @@ use lib.Seq.{getD-set-same, getD-set-other}
 use borrow.Author.Tests.{eqb-true, eq-eqb, ne-eqb, le-leb, lt-leb}
 use Rattle.laws.proofs.Lists.{byte-at, bytes-all}
 use Rattle.laws.proofs.Split.{by-bool, by-eq, by-lt, and-true, and-right-false}
-use Rattle.bits.specs.Bits.{bitAt, anyFrom, someSet, within, Marked}
+use Rattle.bits.specs.Bits.{bitAt, anyFrom, someSet, within, Marked, Takes}
 use Rattle.bits.specs.Ways.{strideOf, hitOf, markedOf}
 use Rattle.bits.proofs.Byte.{bitOf, bit-none, bit-or, bit-power, bit-full, bits-same}
-use Rattle.bits.proofs.Bits.{bit-at, any-nowhere, any-split, some-set-none, some-set-by, within-in, within-before, within-behind, unmarked, marked-join}
+use Rattle.bits.proofs.Bits.{bit-at, any-nowhere, any-split, some-set-none, some-set-by, within-in, within-before, within-behind, unmarked, marked-none, marked-join}
 
 -- a whole byte, or one bit: not at a byte's first, or too few are left
 module _ (i to : ℕ) where
@@ -107,25 +107,31 @@ module _ (bs : List ℕ) (i to stride byte : ℕ) (e : stride ≡ strideOf i to)
       (by-bool (someSet i 8 bs) (λ t. rw (t, ne-eqb byte 0 (λ z. true≢false (sym t ∙ whole-zero m z)))) (λ f. rw (f, whole-some m f))))
       (λ s. rw (e ∙ s) (sym (here i (i % 8) refl refl) ∙ sym (some-one i bs)))
 
--- a turn of the loop that looks, and its two ends
-module _ (bs : List ℕ) (i to stride byte : ℕ) (hit : Bool) (e : stride ≡ strideOf i to) (b : byte ≡ getD bs (i / 8) 0) (small : byte < 256) (h : hit ≡ hitOf byte i stride) (room : i + stride ≤ to) where
-  split : someSet i (to - i) bs ≡ (hit || someSet (i + stride) (to - (i + stride)) bs)
-  unfolding someSet
-  split =
-      let k : to - i ≡ stride + (to - (i + stride)) = omega arith in
-      rw (k, any-split (bitAt bs) i stride (to - (i + stride)), h, hit-is bs i to stride byte e b small)
+not-or : (a b : Bool) → (not a && not b) ≡ not (a || b)
+not-or true b = refl
+not-or false b = refl
 
-  pub look-turn : hit ≡ false → someSet i (to - i) bs ≡ someSet (i + stride) (to - (i + stride)) bs
-  look-turn f = split ∙ rw f
+-- behind what is marked so far, all is as it was
+ahead : (first bs : List ℕ) (from i count : ℕ) → from ≤ i → Marked from (i - from) first bs → someSet i count bs ≡ someSet i count first
+unfolding someSet
+ahead first bs from i count l done =
+    some-set-by i count bs (bitAt first)
+    (λ j lj uj.
+    let k : from + (i - from) ≤ j = omega arith in
+    done .bits j ∙ sym (unmarked (bitAt first j) (within from (i - from) j) (within-behind from (i - from) j k)))
 
-  pub look-stop : hit ≡ true → someSet i (to - i) bs ≡ true
-  look-stop t = split ∙ rw t
+some-split : (first : List ℕ) (from i stride : ℕ) → from ≤ i → someSet from (i + stride - from) first ≡ (someSet from (i - from) first || someSet i stride first)
+unfolding someSet
+some-split first from i stride l =
+    let k : i + stride - from ≡ (i - from) + stride = omega arith in
+    let at : from + (i - from) ≡ i = omega arith in
+    rw (k, any-split (bitAt first) from (i - from) stride, at)
 
-pub look-end : (bs : List ℕ) (i to : ℕ) → to ≤ i → someSet i (to - i) bs ≡ false
-unfolding someSet anyFrom
-look-end bs i to h =
-    let k : to - i ≡ 0 = omega arith in
-    rw k
+-- a turn of the loop: what is known of the bits that were marked, and of those of one stride more
+pub clear-turn : (first bs : List ℕ) (from i to stride byte : ℕ) (clear hit : Bool) → from ≤ i → stride ≡ strideOf i to → byte ≡ getD bs (i / 8) 0 → byte < 256 → hit ≡ hitOf byte i stride → Marked from (i - from) first bs → clear ≡ not (someSet from (i - from) first) → (clear && not hit) ≡ not (someSet from (i + stride - from) first)
+clear-turn first bs from i to stride byte clear hit l e b small h done c =
+    let seen : hit ≡ someSet i stride first = h ∙ hit-is bs i to stride byte e b small ∙ ahead first bs from i stride l done in
+    rw (c, seen, some-split first from i stride l) (not-or (someSet from (i - from) first) (someSet i stride first))
 
 -- a byte with a stride's bits set, seen at a place p of the same byte
 marked-bit : (byte i to p : ℕ) → p / 8 ≡ i / 8 → bitOf (markedOf byte i (strideOf i to)) (p % 8) ≡ (bitOf byte (p % 8) || within i (strideOf i to) p)
@@ -173,65 +179,47 @@ mark-turn first bs from i to stride byte l more same room e b done =
     let at : from + (i - from) ≡ i = omega arith in
     rw k (marked-join from (i - from) stride first bs (set bs (i / 8) byte) done (rw (at, b, e) (marked-step bs i to more room′)))
 
-pub mark-end : (first bs : List ℕ) (from i to : ℕ) → to ≤ i → i ≤ to → Marked from (i - from) first bs → Marked from (to - from) first bs
-mark-end first bs from i to h k done =
+-- nothing is taken before the first turn, and all behind the last
+pub takes-none : (from count : ℕ) (bs : List ℕ) → count ≡ 0 → Takes from count bs bs true
+unfolding someSet anyFrom
+takes-none from count bs e = (rw e, marked-none from count bs e)
+
+pub takes-end : (first bs : List ℕ) (from i to : ℕ) (clear : Bool) → to ≤ i → i ≤ to → Takes from (i - from) first bs clear → Takes from (to - from) first bs clear
+takes-end first bs from i to clear h k done =
     let e : to ≡ i = omega arith in
     rw e done
 
--- whole bytes: the turns of the loop that looks at them, and its two ends
-module _ (bs : List ℕ) (i to byte : ℕ) (more : i < to) (b : byte ≡ getD bs i 0) (small : byte < 256) where
-  here-whole : 8 ≡ strideOf (i * 8) (to * 8)
-  here-whole =
+-- whole bytes: a turn of the loop over them, and its end
+not-not : (b : Bool) → not (not b) ≡ b
+not-not true = refl
+not-not false = refl
+
+module _ (first bs : List ℕ) (from i to byte : ℕ) (clear : Bool) (l : from ≤ i) (more : i < to) (same : length bs ≡ length first) (room : to ≤ length first) (b : byte ≡ getD bs i 0) (small : byte < 256) (done : Takes (from * 8) (i * 8 - from * 8) first bs clear) where
+  whole : 8 ≡ strideOf (i * 8) (to * 8)
+  whole =
       let m : i * 8 % 8 ≡ 0 = omega arith in
       let h : 8 ≤ to * 8 - i * 8 = omega arith in
       sym (stride-whole (i * 8) (to * 8) m h)
 
-  here-byte : byte ≡ getD bs (i * 8 / 8) 0
-  here-byte = let e : i * 8 / 8 ≡ i = omega arith in rw e b
+  byte-of : i * 8 / 8 ≡ i
+  byte-of = omega arith
 
-  next : i * 8 + 8 ≡ (i + 1) * 8
+  next : i * 8 + 8 - from * 8 ≡ (i + 1) * 8 - from * 8
   next = omega arith
 
-  room-whole : i * 8 + 8 ≤ to * 8
-  room-whole = omega arith
+  pub bytes-turn : Takes (from * 8) ((i + 1) * 8 - from * 8) first (set bs i 255) (clear && eqb byte 0)
+  unfolding hitOf markedOf
+  bytes-turn = (
+    rw (next, not-not (eqb byte 0)) at (clear-turn first bs (from * 8) (i * 8) (to * 8) 8 byte clear (not (eqb byte 0)) (omega arith) whole (rw byte-of b) small refl (done .1) (done .0)),
+    rw (next, byte-of) at (mark-turn first bs (from * 8) (i * 8) (to * 8) 8 255 (omega arith) (omega arith) same (omega arith) whole refl (done .1)),
+  )
 
-  pub bytes-turn : byte ≡ 0 → someSet (i * 8) (to * 8 - i * 8) bs ≡ someSet ((i + 1) * 8) (to * 8 - (i + 1) * 8) bs
-  unfolding hitOf
-  bytes-turn z =
-      look-turn bs (i * 8) (to * 8) 8 byte (not (eqb byte 0)) here-whole here-byte small refl room-whole (rw (eq-eqb byte 0 z))
-      ∙ ap (λ (n : ℕ). someSet n (to * 8 - n) bs) next
-
-  pub bytes-stop : (byte ≡ 0 → ⊥) → someSet (i * 8) (to * 8 - i * 8) bs ≡ true
-  unfolding hitOf
-  bytes-stop n = look-stop bs (i * 8) (to * 8) 8 byte (not (eqb byte 0)) here-whole here-byte small refl room-whole (rw (ne-eqb byte 0 n))
-
-pub bytes-end : (bs : List ℕ) (i to : ℕ) → to ≤ i → someSet (i * 8) (to * 8 - i * 8) bs ≡ false
-bytes-end bs i to h = look-end bs (i * 8) (to * 8) (omega arith)
-
--- a turn of the loop that marks whole bytes, and its end
-pub full-turn : (first bs : List ℕ) (from i to : ℕ) → from ≤ i → i < to → length bs ≡ length first → to ≤ length first → Marked (from * 8) (i * 8 - from * 8) first bs → Marked (from * 8) ((i + 1) * 8 - from * 8) first (set bs i 255)
-unfolding markedOf
-full-turn first bs from i to l more same room done =
-    let m : i * 8 % 8 ≡ 0 = omega arith in
-    let h : 8 ≤ to * 8 - i * 8 = omega arith in
-    let e : i * 8 / 8 ≡ i = omega arith in
-    let k : i * 8 + 8 - from * 8 ≡ (i + 1) * 8 - from * 8 = omega arith in
-    rw (k, e) at (mark-turn first bs (from * 8) (i * 8) (to * 8) 8 255 (omega arith) (omega arith) same (omega arith) (sym (stride-whole (i * 8) (to * 8) m h)) refl done)
-
-pub full-end : (first bs : List ℕ) (from i to : ℕ) → to ≤ i → i ≤ to → Marked (from * 8) (i * 8 - from * 8) first bs → Marked (from * 8) (to * 8 - from * 8) first bs
-full-end first bs from i to h k done =
-    let e : to ≡ i = omega arith in
-    rw e done
+pub bytes-end : (first bs : List ℕ) (from i to : ℕ) (clear : Bool) → to ≤ i → i ≤ to → Takes (from * 8) (i * 8 - from * 8) first bs clear → Takes (from * 8) (to * 8 - from * 8) first bs clear
+bytes-end first bs from i to clear h k done = takes-end first bs (from * 8) (i * 8) (to * 8) clear (omega arith) (omega arith) done
 
 -- places that are those of whole bytes
-pub some-whole : (bs : List ℕ) (from to : ℕ) → from % 8 ≡ 0 → to % 8 ≡ 0 → someSet (from / 8 * 8) (to / 8 * 8 - from / 8 * 8) bs ≡ someSet from (to - from) bs
-some-whole bs from to f t =
-    let e : from / 8 * 8 ≡ from = omega arith in
-    let g : to / 8 * 8 ≡ to = omega arith in
-    rw (e, g)
-
-pub marked-whole : (first bs : List ℕ) (from to : ℕ) → from % 8 ≡ 0 → to % 8 ≡ 0 → Marked (from / 8 * 8) (to / 8 * 8 - from / 8 * 8) first bs → Marked from (to - from) first bs
-marked-whole first bs from to f t done =
+pub takes-whole : (first bs : List ℕ) (from to : ℕ) (clear : Bool) → from % 8 ≡ 0 → to % 8 ≡ 0 → Takes (from / 8 * 8) (to / 8 * 8 - from / 8 * 8) first bs clear → Takes from (to - from) first bs clear
+takes-whole first bs from to clear f t done =
     let e : from / 8 * 8 ≡ from = omega arith in
     let g : to / 8 * 8 ≡ to = omega arith in
     rw (e, g) at done

@@ -1,6 +1,6 @@
 -- Bits kept eight to a byte. Assumes nothing.
 use mathlib.Core.Path.{_≡_}
-use mathlib.Core.Bool.{Bool, true, false, _&&_, _||_}
+use mathlib.Core.Bool.{Bool, true, false, not, _&&_, _||_}
 use mathlib.Core.List.{List}
 use Prim.Native.Nat.{ℕ, zero, suc, _+_, _/_, _%_, _^_}
 use lib.Dec.{eqb, leb, ltb}
@@ -29,3 +29,7 @@ pub record Marked (from count : ℕ) (bs after : List ℕ) : Type 0 where
   pub kept : length after ≡ length bs
   pub bits : (i : ℕ) → bitAt after i ≡ (bitAt bs i || within from count i)
   pub bytes : allBytes bs ≡ true → allBytes after ≡ true
+
+-- so it is, and `clear` says whether none of them was set before
+abbrev pub Takes : ℕ → ℕ → List ℕ → List ℕ → Bool → Type 0
+Takes from count bs after clear = (clear ≡ not (someSet from count bs)) × Marked from count bs after

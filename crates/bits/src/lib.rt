@@ -1,9 +1,8 @@
-// Bits kept eight to a byte, the lowest first: are those of a part all clear, and set them.
+// Bits kept eight to a byte, the lowest first: those of a part are set, and was one of them before?
 ghost use mathlib.Core.Path.{_≡_};
-ghost use mathlib.Core.Bool.{not};
 ghost use Prim.Native.Nat.{_+_, _-_, _*_, _≤_, _<_};
 ghost use lib.ListN.{length};
-ghost use Rattle.bits.specs.Bits.{someSet, Marked};
+ghost use Rattle.bits.specs.Bits.{Takes};
 ghost use Rattle.bits.specs.Ways.{strideOf, hitOf, markedOf};
 
 // A whole byte where eight bits from its first on are left, else one bit.
@@ -37,81 +36,47 @@ fn marked(byte: u8, i: usize, stride: usize) -> u8
     byte | (1u8 << (i % 8))
 }
 
-// Is no bit of the bytes from place `from` up to place `to` set?
-fn clear_bytes(bits: &[u8], from: usize, to: usize) -> bool
+// All bits of the bytes from place `from` up to place `to` become set. Was none of them set before?
+fn mark_bytes(bits: &mut [u8], from: usize, to: usize) -> bool
     requires { ⌜ (from ≤ to) × (to ≤ length (now bits)) ⌝ }
-    ensures { λ r. ⌜ r ≡ not (someSet (from * 8) (to * 8 - from * 8) (now (bits .entry))) ⌝ }
+    ensures { λ r. ⌜ Takes (from * 8) (to * 8 - from * 8) (now (bits .entry)) (now (bits .exit)) r ⌝ }
 {
+    let mut clear = true;
     let mut i = from;
     while i < to {
-        if bits[i] != 0 {
-            return false;
-        }
-        i += 1;
-    }
-    true
-}
-
-// All bits of the bytes from place `from` up to place `to` become set.
-fn mark_bytes(bits: &mut [u8], from: usize, to: usize)
-    requires { ⌜ (from ≤ to) × (to ≤ length (now bits)) ⌝ }
-    ensures { λ _. ⌜ Marked (from * 8) (to * 8 - from * 8) (now (bits .entry)) (now (bits .exit)) ⌝ }
-{
-    let mut i = from;
-    while i < to {
+        clear = clear & (bits[i] == 0);
         bits[i] = 255;
         i += 1;
     }
+    clear
 }
 
-// Is no bit from place `from` up to place `to` set, wherever these are in their bytes?
-fn clear_any(bits: &[u8], from: usize, to: usize) -> bool
+// The bits from place `from` up to place `to` become set, wherever these are in their bytes. Was none of them set
+// before?
+fn mark_any(bits: &mut [u8], from: usize, to: usize) -> bool
     requires { ⌜ (from ≤ to) × (to ≤ length (now bits) * 8) ⌝ }
-    ensures { λ r. ⌜ r ≡ not (someSet from (to - from) (now (bits .entry))) ⌝ }
+    ensures { λ r. ⌜ Takes from (to - from) (now (bits .entry)) (now (bits .exit)) r ⌝ }
 {
+    let mut clear = true;
     let mut i = from;
     while i < to {
         let count = stride(i, to);
-        if hit(bits[i / 8], i, count) {
-            return false;
-        }
+        let byte = bits[i / 8];
+        clear = clear & !hit(byte, i, count);
+        bits[i / 8] = marked(byte, i, count);
         i += count;
     }
-    true
+    clear
 }
 
-// The bits from place `from` up to place `to` become set, wherever these are in their bytes.
-fn mark_any(bits: &mut [u8], from: usize, to: usize)
+// The bits from place `from` up to place `to` become set. Was none of them set before? Nearly all parts are whole
+// bytes, and these are quickly done.
+pub fn mark(bits: &mut [u8], from: usize, to: usize) -> bool
     requires { ⌜ (from ≤ to) × (to ≤ length (now bits) * 8) ⌝ }
-    ensures { λ _. ⌜ Marked from (to - from) (now (bits .entry)) (now (bits .exit)) ⌝ }
-{
-    let mut i = from;
-    while i < to {
-        let count = stride(i, to);
-        bits[i / 8] = marked(bits[i / 8], i, count);
-        i += count;
-    }
-}
-
-// Is no bit from place `from` up to place `to` set? Nearly all parts are whole bytes, and these are quickly seen.
-pub fn clear(bits: &[u8], from: usize, to: usize) -> bool
-    requires { ⌜ (from ≤ to) × (to ≤ length (now bits) * 8) ⌝ }
-    ensures { λ r. ⌜ r ≡ not (someSet from (to - from) (now (bits .entry))) ⌝ }
+    ensures { λ r. ⌜ Takes from (to - from) (now (bits .entry)) (now (bits .exit)) r ⌝ }
 {
     if from % 8 == 0 && to % 8 == 0 {
-        return clear_bytes(bits, from / 8, to / 8);
+        return mark_bytes(bits, from / 8, to / 8);
     }
-    clear_any(bits, from, to)
-}
-
-// The bits from place `from` up to place `to` become set.
-pub fn mark(bits: &mut [u8], from: usize, to: usize)
-    requires { ⌜ (from ≤ to) × (to ≤ length (now bits) * 8) ⌝ }
-    ensures { λ _. ⌜ Marked from (to - from) (now (bits .entry)) (now (bits .exit)) ⌝ }
-{
-    if from % 8 == 0 && to % 8 == 0 {
-        mark_bytes(bits, from / 8, to / 8);
-        return;
-    }
-    mark_any(bits, from, to);
+    mark_any(bits, from, to)
 }

@@ -36,10 +36,9 @@ pub fn place(
     }
     let from = (address - Board::FLASH as u64) as usize;
     let to = from + bytes.len();
-    if !bits::clear(given, from, to) {
+    if !bits::mark(given, from, to) {
         return Done::Refused(Refusal::Twice);
     }
-    bits::mark(given, from, to);
     buffer::put(image, from, bytes);
     Done::Bytes(larger(end, to))
 }

@@ -8,8 +8,8 @@ use native.Mathlib.Numerals.{add-one}
 use lib.Dec.{eqb}
 use lib.ListN.{length, drop, getD, drop-of-length-le}
 use lib.Seq.{drop-cons}
-use borrow.Author.Tests.{eqb-true}
-use Rattle.laws.proofs.Split.{and-true}
+use borrow.Author.Tests.{eqb-true, ne-eqb}
+use Rattle.laws.proofs.Split.{by-bool, and-true, and-right-false}
 use Rattle.record.specs.Record.{lengthOf, offsetOf, typeOf, suits, sumOf, sound}
 
 -- the sum of what is left, one byte further
@@ -27,6 +27,13 @@ unfolding sumOf
 sum-end xs i s h k =
     let d : sumOf (drop i xs) ≡ 0 = rw (drop-of-length-le xs h) in
     omega arith
+
+-- only data have an offset
+pub suits-at-0 : (type bytes offset : ℕ) → (type ≡ 0 → ⊥) → (offset ≡ 0 → ⊥) → suits type bytes offset ≡ false
+unfolding suits
+suits-at-0 type bytes offset n o =
+    rw (ne-eqb type 0 n, ne-eqb offset 0 o, and-right-false (eqb bytes 0), and-right-false (eqb bytes 2), and-right-false (eqb bytes 4))
+    (by-bool (eqb type 1) (λ e. rw e) (λ e. rw e (by-bool (eqb type 4) (λ f. rw f) (λ f. rw f (by-bool (eqb type 5) (λ g. rw g) (λ g. rw g))))))
 
 -- a record whose type does not suit it is not sound; with one that does, its sum tells
 module _ (r : List ℕ) (offset : ℕ) (is : offset ≡ getD r 1 0 * 256 + getD r 2 0) where

@@ -89,15 +89,21 @@ pub fn word(high: u8, low: u8) -> u16
     high as u16 * 256 + low as u16
 }
 
-// Is there no more than the type asks for? Length and offset are all that it says.
+// Is there no more than the type asks for? Length and offset are all that it says. Data come first: nearly all records
+// are.
 fn suits(kind: u8, bytes: u8, offset: u16) -> bool
     ensures { λ r. ⌜ r ≡ suits kind bytes offset ⌝ }
 {
+    if kind == DATA {
+        return true;
+    }
+    if offset != 0 {
+        return false;
+    }
     match kind {
-        DATA => true,
-        END => (bytes == 0) & (offset == 0),
-        UPPER => (bytes == 2) & (offset == 0),
-        START => (bytes == 4) & (offset == 0),
+        END => bytes == 0,
+        UPPER => bytes == 2,
+        START => bytes == 4,
         _ => false,
     }
 }

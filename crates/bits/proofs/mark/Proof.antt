@@ -1,6 +1,6 @@
 -- `bits::mark` meets its contract. Assumes nothing.
 use borrow.Author.Tests.{eqb-true}
-use Rattle.bits.proofs.Ways.{marked-whole}
+use Rattle.bits.proofs.Ways.{takes-whole}
 use borrow.Author.Needs.{needs}
 use Rattle.bits.proofs.mark.Statement.{statement}
 use Rattle.bits.proofs.mark.Tie as tie
@@ -14,7 +14,7 @@ same-length c = search needs
 returns : tie.Need-returns
 returns c =
     let d = c .before .before .before .before in
-    marked-whole _ _ _ _ (d .before .if1 .taken) (eqb-true _ _ (d .if2 .taken)) (c .before .before .mark-bytes .ensures)
+    takes-whole _ _ _ _ _ (d .before .if1 .taken) (eqb-true _ _ (d .if2 .taken)) (c .before .before .mark-bytes .ensures)
 
 mark-any-requires : tie.Need-mark-any-requires
 mark-any-requires c κs = search needs

@@ -38,10 +38,11 @@ add-to c =
     let r = s .pre .1 in
     omega arith
 
-clear-requires : tie.Need-clear-requires
-clear-requires c κs =
-    let s = c .before .before .before .before .before .before .before in
-    let o : inFlash (s .args .board .pages) (s .args .address) (length (s .args .bytes .now)) ≡ true = sym (c .before .before .in-flash .ensures) ∙ not-false _ (c .before .if2 .left) in
+mark-requires : tie.Need-mark-requires
+mark-requires c κs =
+    let f = c .before in
+    let s = f .before .before .before .before .before .before in
+    let o : inFlash (s .args .board .pages) (s .args .address) (length (s .args .bytes .now)) ≡ true = sym (f .before .in-flash .ensures) ∙ not-false _ (f .if2 .left) in
     let e = flash-ends _ _ _ o in
     (omega arith, let r = s .pre .0 in omega arith)
 
@@ -50,22 +51,17 @@ same-length c = search needs
 
 returns-3 : tie.Need-returns-3
 returns-3 c =
-    let s = c .before .before .before .before .before .before .before .before .before in
-    let o : inFlash (s .args .board .pages) (s .args .address) (length (s .args .bytes .now)) ≡ true = sym (c .before .before .before .before .in-flash .ensures) ∙ not-false _ (c .before .before .before .if2 .left) in
+    let f = c .before .before .before .before .before in
+    let s = f .before .before .before .before .before .before in
+    let o : inFlash (s .args .board .pages) (s .args .address) (length (s .args .bytes .now)) ≡ true = sym (f .before .in-flash .ensures) ∙ not-false _ (f .if2 .left) in
     let e = flash-ends _ _ _ o in
-    λ ps h. twice (s .args .board .pages) (s .args .address) (s .args .bytes .now) ps (c .before .before .before .before .before .if1 .left) o (sym (bits-tell-given h (s .args .address) (s .args .bytes .now) o _ _ refl refl) ∙ not-false _ (sym (c .before .clear .ensures) ∙ not-true _ (c .if3 .taken)))
-
-mark-requires : tie.Need-mark-requires
-mark-requires c κs =
-    let s = c .before .before .before .before .before .before .before .before .before .before in
-    let o : inFlash (s .args .board .pages) (s .args .address) (length (s .args .bytes .now)) ≡ true = sym (c .before .before .before .before .before .in-flash .ensures) ∙ not-false _ (c .before .before .before .before .if2 .left) in
-    let e = flash-ends _ _ _ o in
-    (omega arith, let r = s .pre .0 in omega arith)
+    λ ps h. twice (s .args .board .pages) (s .args .address) (s .args .bytes .now) ps (f .before .before .if1 .left) o (sym (bits-tell-given h (s .args .address) (s .args .bytes .now) o _ _ refl refl) ∙ not-false _ (sym (c .before .before .before .mark .ensures .0) ∙ not-true _ (c .if3 .taken)))
 
 put-requires : tie.Need-put-requires
 put-requires c κs =
-    let s = c .before .before .before .before .before .before .before .before .before .before .before .before .before .before in
-    let o : inFlash (s .args .board .pages) (s .args .address) (length (s .args .bytes .now)) ≡ true = sym (c .before .before .before .before .before .before .before .before .before .in-flash .ensures) ∙ not-false _ (c .before .before .before .before .before .before .before .before .if2 .left) in
+    let f = c .before .before .before .before .before .before in
+    let s = f .before .before .before .before .before .before in
+    let o : inFlash (s .args .board .pages) (s .args .address) (length (s .args .bytes .now)) ≡ true = sym (f .before .in-flash .ensures) ∙ not-false _ (f .if2 .left) in
     let e = flash-ends _ _ _ o in
     let r = s .pre .1 in omega arith
 
@@ -80,13 +76,15 @@ same-length-3 c = search needs
 
 returns-4 : tie.Need-returns-4
 returns-4 c =
-    let s = c .before .before .before .before .before .before .before .before .before .before .before .before .before .before .before .before .before .before in
-    let o : inFlash (s .args .board .pages) (s .args .address) (length (s .args .bytes .now)) ≡ true = sym (c .before .before .before .before .before .before .before .before .before .before .before .before .before .in-flash .ensures) ∙ not-false _ (c .before .before .before .before .before .before .before .before .before .before .before .before .if2 .left) in
+    let f = c .before .before .before .before .before .before .before .before .before .before in
+    let s = f .before .before .before .before .before .before in
+    let o : inFlash (s .args .board .pages) (s .args .address) (length (s .args .bytes .now)) ≡ true = sym (f .before .in-flash .ensures) ∙ not-false _ (f .if2 .left) in
     let e = flash-ends _ _ _ o in
+    let m = c .before .before .before .before .before .before .before .before .mark .ensures in
     λ ps h.
-    let t = sym (bits-tell-given h (s .args .address) (s .args .bytes .now) o _ _ refl refl) ∙ not-true _ (sym (c .before .before .before .before .before .before .before .before .before .before .clear .ensures) ∙ not-false _ (c .before .before .before .before .before .before .before .before .before .if3 .left)) in
-    let some = c .before .before .before .before .before .before .before .before .before .before .before .before .before .before .if1 .left in
-    (fresh (s .args .board .pages) (s .args .address) (s .args .bytes .now) ps some o t, rw (c .larger .ensures, with-piece (s .args .board .pages) (s .args .address) (s .args .bytes .now) ps some) (holds-with h (s .args .address) (s .args .bytes .now) o _ _ refl refl some _ _ (c .before .before .before .before .before .before .before .mark .ensures) (c .before .before .before .put .ensures)))
+    let t = sym (bits-tell-given h (s .args .address) (s .args .bytes .now) o _ _ refl refl) ∙ not-true _ (sym (m .0) ∙ not-false _ (c .before .before .before .before .before .if3 .left)) in
+    let some = f .before .before .if1 .left in
+    (fresh (s .args .board .pages) (s .args .address) (s .args .bytes .now) ps some o t, rw (c .larger .ensures, with-piece (s .args .board .pages) (s .args .address) (s .args .bytes .now) ps some) (holds-with h (s .args .address) (s .args .bytes .now) o _ _ refl refl some _ _ (m .1) (c .before .before .before .put .ensures)))
 
 pub place-spec : {M : Type 1} → statement M
 place-spec =
@@ -98,10 +96,9 @@ place-spec =
     cast-from
     sub-from
     add-to
-    clear-requires
+    mark-requires
     same-length
     returns-3
-    mark-requires
     put-requires
     larger-requires
     same-length-2
