@@ -26,17 +26,26 @@ use Rattle.ihex.specs.Ways.{mostBytes}
 use Rattle.ihex.proofs.Faulty.{Names, names-from}
 use Rattle.ihex.proofs.RoundTrip.{text-free, text-image}
 
--- Reading what the writer wrote gives the image back, and its length; on every board whose flash lies above one upper half.
+-- Reading the text of an image gives the image, and its length; on every board whose flash lies above one upper half.
+pub reading-the-text : (n : ℕ) (xs back : List ℕ) → flashBytes n ≤ mostBytes → allBytes xs ≡ true → 1 ≤ length xs → length xs ≤ flashBytes n → length xs ≤ length back → readOf n (textOf xs) back ≡ delivery (Bytes (length xs)) (put 0 xs back)
+unfolding readOf
+reading-the-text n xs back small b some fits room =
+    let most : length xs ≤ mostBytes = omega arith in
+    ap (λ (l : List ℕ). delivered (readRefusals n (textOf xs)) l back) (text-image n xs b fits most some)
+    ∙ delivers-output (readRefusals n (textOf xs)) xs back (text-free n xs b fits most some) room
+
+-- So does reading what the writer has put out, whatever the image: one that does not fit has no text.
 pub reading-what-was-written : (n : ℕ) (xs out back : List ℕ) (m : ℕ) → flashBytes n ≤ mostBytes → allBytes xs ≡ true → length xs ≤ length back → writeOf n xs out .answer ≡ 0 ∷ m ∷ [] → readOf n (take m (writeOf n xs out .buffer)) back ≡ delivery (Bytes (length xs)) (put 0 xs back)
-unfolding readOf writeOf
+unfolding writeOf
 reading-what-was-written n xs out back m small b room e =
     let w = delivered-bytes (writeRefusals n xs) (textOf xs) out m e in
     let f = fit-some n (length xs) (first-exactly (writeRefusals n xs) admission.Admitted .0 (w .0) .0) in
-    let most : length xs ≤ mostBytes = omega arith in
     let t : take m (delivered (writeRefusals n xs) (textOf xs) out .buffer) ≡ textOf xs = ap₂ take (w .1) (w .2) ∙ take-put (textOf xs) out in
-    ap (λ (x : List ℕ). readOf n x back) t
-    ∙ ap (λ (l : List ℕ). delivered (readRefusals n (textOf xs)) l back) (text-image n xs b (f .1) most (f .0))
-    ∙ delivers-output (readRefusals n (textOf xs)) xs back (text-free n xs b (f .1) most (f .0)) room
+    ap (λ (x : List ℕ). readOf n x back) t ∙ reading-the-text n xs back small b (f .0) (f .1) room
+
+-- For the logger: every image of 1 to 16,384 bytes comes back.
+pub every-image-comes-back : (xs back : List ℕ) → allBytes xs ≡ true → 1 ≤ length xs → length xs ≤ 16384 → length xs ≤ length back → readOf loggerPages (textOf xs) back ≡ delivery (Bytes (length xs)) (put 0 xs back)
+every-image-comes-back xs back b some fits room = reading-the-text loggerPages xs back (omega arith) b some (omega arith) room
 
 -- One text for one image: two images that fit the logger's flash and have the same text are the same.
 pub one-text : (xs ys : List ℕ) → allBytes xs ≡ true → allBytes ys ≡ true → 1 ≤ length xs → 1 ≤ length ys → length xs ≤ flashBytes loggerPages → length ys ≤ flashBytes loggerPages → textOf xs ≡ textOf ys → xs ≡ ys
