@@ -1,21 +1,23 @@
--- Laying a piece: its refusals, and that all holds with it. Assumes nothing.
+-- Laying a piece: what the code does, its refusals, and that all holds with it. Assumes nothing.
 use mathlib.Core.Path.{_≡_, refl, ap, ap₂, _∙_, sym}
 use mathlib.Core.Bool.{Bool, true, false, not, cond, _&&_, _||_}
-use mathlib.Core.List.{List, [], _∷_}
+use mathlib.Core.List.{List, [], _∷_, append-nil}
 use Prim.Native.Nat.{ℕ, zero, suc, _+_, _-_, _*_, _≤_, _<_}
 use native.Mathlib.Omega.{arith}
-use native.Mathlib.Nat.{add-suc, suc-add}
+use native.Mathlib.Nat.{add-zero, add-suc, suc-add}
 use lib.Dec.{eqb, leb, ltb}
-use lib.ListN.{length, getD}
+use lib.ListN.{length, take, getD, take-append-drop}
 use borrow.Author.Tests.{eq-eqb, ne-eqb, lt-ltb, le-ltb, le-leb, lt-leb, not-true, not-false}
 use Rattle.laws.specs.Bytes.{put}
 use Rattle.laws.proofs.Bytes.{put-length}
 use Rattle.laws.proofs.Places.{put-before, put-in, put-after}
-use Rattle.laws.proofs.Split.{by-bool, by-lt, and-right-false}
+use Rattle.laws.proofs.Split.{by-bool, by-eq, by-lt, and-right-false}
 use Rattle.bits.specs.Bits.{bitAt, anyFrom, someSet, within, Marked}
-use Rattle.bits.proofs.Bits.{some-set-by, within-in, within-before, within-behind}
+use Rattle.bits.proofs.Bits.{some-set-by, within-in, within-before, within-behind, unmarked, marked-none}
 use Rattle.refusal.specs.declared.Refusal.the-variants.{Outside, Twice}
 use Rattle.refusal.specs.declared.Admission.the-variants.{Admitted, Refused}
+use Rattle.refusal.specs.declared.Done.{Done}
+use Rattle.refusal.specs.declared.Done.the-variants as done
 use Rattle.refusal.specs.Order.{firstOf}
 use Rattle.refusal.proofs.First.{first-here, first-on, first-none}
 use Rattle.board.specs.Layout.{flashFirst, flashBytes}
@@ -23,7 +25,7 @@ use Rattle.board.specs.Span.{spans, inFlash}
 use Rattle.board.proofs.Span.{spans-ends}
 use Rattle.pieces.specs.Image.{Piece, gives, given, byteAt, larger, reach}
 use Rattle.pieces.specs.Refusals.{withPiece, pieceRefusals, none}
-use Rattle.pieces.specs.Ways.{Holds}
+use Rattle.pieces.specs.Ways.{placingOf, laidOf, markedBytes, Placing, Holds, Placed, Places}
 
 -- what each test comes to
 module _ (n a : ℕ) (xs : List ℕ) (ps : List Piece) where
@@ -171,3 +173,95 @@ module _ {n : ℕ} {ps : List Piece} {bits image : List ℕ} {end : ℕ} (h : Ho
       where
         one : (k : ℕ) → (k ≡ 0 → ⊥) → 1 ≤ k
         one k z = omega arith
+
+put-none : (at : ℕ) (xs m : List ℕ) → length xs ≡ 0 → put at xs m ≡ m
+unfolding put
+put-none at [] m z = rw (add-zero at, append-nil (take at m)) (take-append-drop at m)
+put-none at (x ∷ xs) m z = absurd (omega arith)
+
+-- what the code does, case by case
+module _ (n a : ℕ) (xs : List ℕ) (end : ℕ) (bits image : List ℕ) where
+  put-nothing : length xs ≡ 0 → image ≡ put (a - flashFirst) xs image
+  put-nothing z = sym (put-none (a - flashFirst) xs image z)
+
+  unmarked-count : length xs ≡ 0 → markedBytes n a xs ≡ 0
+  unmarked-count z = by-bool (inFlash n a (length xs)) (λ o. rw o z) (λ o. rw o)
+
+  pub placing-nothing : length xs ≡ 0 → Placing n a xs end bits image bits image (done.Bytes end)
+  unfolding placingOf
+  placing-nothing z = record { answer = rw (eq-eqb (length xs) 0 z); marks = marked-none _ _ bits (unmarked-count z); laid = put-nothing z }
+
+  module _ (some : length xs ≡ 0 → ⊥) where
+    pub placing-outside : inFlash n a (length xs) ≡ false → Placing n a xs end bits image bits image (done.Refused Outside)
+    unfolding placingOf
+    placing-outside o = record { answer = rw (ne-eqb (length xs) 0 some, o); marks = marked-none _ _ bits (rw o); laid = refl }
+
+    module _ (o : inFlash n a (length xs) ≡ true) (from to : ℕ) (is : from ≡ a - flashFirst) (stops : to ≡ from + length xs) (bits′ : List ℕ) (marked : Marked from (to - from) bits bits′) where
+      count : to - from ≡ length xs
+      count = omega arith
+
+      marks-here : Marked (a - flashFirst) (markedBytes n a xs) bits bits′
+      marks-here = rw o (rw (count, is) at marked)
+
+      seen : (b : Bool) → someSet from (to - from) bits ≡ b → someSet (a - flashFirst) (length xs) bits ≡ b
+      seen b e = rw (count, is) at e
+
+      pub placing-twice : someSet from (to - from) bits ≡ true → Placing n a xs end bits image bits′ image (done.Refused Twice)
+      unfolding placingOf
+      placing-twice t = record { answer = rw (ne-eqb (length xs) 0 some, o, seen true t); marks = marks-here; laid = refl }
+
+      pub placing-fresh : (image′ : List ℕ) → someSet from (to - from) bits ≡ false → image′ ≡ put from xs image → Placing n a xs end bits image bits′ image′ (done.Bytes (larger end to))
+      unfolding placingOf
+      placing-fresh image′ f l =
+          let e : to ≡ a - flashFirst + length xs = omega arith in
+          record { answer = rw (ne-eqb (length xs) 0 some, o, seen false f, e); marks = marks-here; laid = rw is at l }
+
+-- bits of which none is set, and an image over which nothing is laid, hold what they held
+holds-still : {n : ℕ} {ps : List Piece} {bits image : List ℕ} {end : ℕ} → Holds n ps bits image end → (from : ℕ) (xs bits′ image′ : List ℕ) → length xs ≡ 0 → Marked from 0 bits bits′ → image′ ≡ put from xs image → Holds n ps bits′ image′ end
+holds-still {n} {ps} {bits} {image} {end} h from xs bits′ image′ z m l =
+    let same : image′ ≡ image = l ∙ put-none from xs image z in
+    let room = h .room in
+    let kept = m .kept in
+    record {
+      room = let g : flashBytes n ≤ length bits′ * 8 = omega arith in g;
+      size = ap length same ∙ h .size;
+      marks = λ i k. m .bits i ∙ sym (unmarked (bitAt bits i) (within from 0 i) (nowhere i)) ∙ h .marks i k;
+      bytes = λ i k. ap (λ (l : List ℕ). getD l i 0) same ∙ h .bytes i k;
+      ends = h .ends;
+      most = h .most;
+      some = h .some;
+    }
+  where
+    nowhere : (i : ℕ) → within from 0 i ≡ false
+    nowhere i = by-lt i from (within-before from 0 i) (λ b. let g : from + 0 ≤ i = omega arith in within-behind from 0 i g)
+
+-- what the code does is what a piece comes to, whatever pieces the bits and the image held
+pub placing-places : (n a : ℕ) (xs : List ℕ) (end : ℕ) (bits image bits′ image′ : List ℕ) (r : Done) → Placing n a xs end bits image bits′ image′ r → Places n a xs end bits image bits′ image′ r
+unfolding placingOf
+placing-places n a xs end bits image bits′ image′ r p ps h =
+    by-eq (length xs) 0
+    (λ z.
+    let e : r ≡ done.Bytes end = p .answer ∙ rw (eq-eqb (length xs) 0 z) in
+    let m : Marked (a - flashFirst) 0 bits bits′ = rw (unmarked-count n a xs end bits image z) at (p .marks) in
+    let l : image′ ≡ put (a - flashFirst) xs image = rw e at (p .laid) in
+    let q = none-laid n a xs ps z in
+    rw e (q .0, rw (q .1) (holds-still h (a - flashFirst) xs bits′ image′ z m l)))
+    (λ some.
+    by-bool (inFlash n a (length xs))
+    (λ o.
+    let from : ℕ = a - flashFirst in
+    let to : ℕ = from + length xs in
+    let k : to - from ≡ length xs = omega arith in
+    let m : Marked from (to - from) bits bits′ = rw k (rw o at (p .marks)) in
+    let tells = bits-tell-given h a xs o from to refl refl in
+    by-bool (someSet (a - flashFirst) (length xs) bits)
+    (λ t.
+    let e : r ≡ done.Refused Twice = p .answer ∙ rw (ne-eqb (length xs) 0 some, o, t) in
+    rw e (twice n a xs ps some o (sym tells ∙ rw k t)))
+    (λ f.
+    let e : r ≡ done.Bytes (larger end to) = p .answer ∙ rw (ne-eqb (length xs) 0 some, o, f) in
+    let l : image′ ≡ put from xs image = rw e at (p .laid) in
+    rw e (fresh n a xs ps some o (sym tells ∙ rw k f), rw (with-piece n a xs ps some) (holds-with h a xs o from to refl refl some bits′ image′ m l))))
+    (λ o.
+    let e : r ≡ done.Refused Outside = p .answer ∙ rw (ne-eqb (length xs) 0 some, o) in
+    rw e (outside n a xs ps some o)))

@@ -7,7 +7,7 @@ ghost use Prim.Native.Nat.{_*_, _≤_};
 ghost use lib.ListN.{length};
 ghost use Rattle.board.specs.Layout.{flashBytes};
 ghost use Rattle.pieces.specs.Image.{larger};
-ghost use Rattle.pieces.specs.Ways.{Places};
+ghost use Rattle.pieces.specs.Ways.{Placing};
 
 // The larger of two.
 fn larger(a: usize, b: usize) -> usize
@@ -16,7 +16,7 @@ fn larger(a: usize, b: usize) -> usize
     if a < b { b } else { a }
 }
 
-// Lays bytes from an address on, and gives where the image ends then; or refuses, and lays none.
+// RecordPlaces bytes from an address on, and gives where the image ends then; or refuses, and lays none.
 pub fn place(
     board: Board,
     address: u64,
@@ -26,7 +26,7 @@ pub fn place(
     image: &mut [u8],
 ) -> Done
     requires { ⌜ (flashBytes (board .pages) ≤ length (now given) * 8) × (length (now image) ≡ flashBytes (board .pages)) ⌝ }
-    ensures { λ r. ⌜ Places (board .pages) address (now (bytes .entry)) end (now (given .entry)) (now (image .entry)) (now (given .exit)) (now (image .exit)) r ⌝ }
+    ensures { λ r. ⌜ Placing (board .pages) address (now (bytes .entry)) end (now (given .entry)) (now (image .entry)) (now (given .exit)) (now (image .exit)) r ⌝ }
 {
     if bytes.len() == 0 {
         return Done::Bytes(end);

@@ -1,27 +1,23 @@
 -- `pieces::place` meets its contract. Assumes nothing.
+use mathlib.Core.Path.{_≡_, refl, sym, _∙_}
+use mathlib.Core.Bool.{true}
 use native.Mathlib.Omega.{arith}
+use lib.ListN.{length}
+use borrow.Author.Needs.{needs}
 use borrow.Author.Tests.{not-true, not-false}
 use Rattle.board.specs.Span.{inFlash}
-use Rattle.pieces.proofs.Placing.{none-laid, outside, twice, fresh, with-piece, flash-ends, bits-tell-given, holds-with}
-use lib.ListN.{length}
-use mathlib.Core.Bool.{true, false, not}
-use mathlib.Core.Path.{_≡_, refl, sym, ap, _∙_}
-use borrow.Author.Needs.{needs}
+use Rattle.pieces.proofs.Placing.{flash-ends, placing-nothing, placing-outside, placing-twice, placing-fresh}
 use Rattle.pieces.proofs.place.Statement.{statement}
 use Rattle.pieces.proofs.place.Tie as tie
 
 returns : tie.Need-returns
-returns c =
-    let s = c .before .before .before .before in
-    λ ps h. let p = none-laid (s .args .board .pages) (s .args .address) (s .args .bytes .now) ps (c .if1 .taken) in (p .0, rw (p .1) h)
+returns c = placing-nothing _ _ _ _ _ _ (c .if1 .taken)
 
 in-flash-requires : tie.Need-in-flash-requires
 in-flash-requires c κs = search needs
 
 returns-2 : tie.Need-returns-2
-returns-2 c =
-    let s = c .before .before .before .before .before .before in
-    λ ps h. outside (s .args .board .pages) (s .args .address) (s .args .bytes .now) ps (c .before .before .if1 .left) (sym (c .before .in-flash .ensures) ∙ not-true _ (c .if2 .taken))
+returns-2 c = placing-outside _ _ _ _ _ _ (c .before .before .if1 .left) (sym (c .before .in-flash .ensures) ∙ not-true _ (c .if2 .taken))
 
 cast-from : tie.Need-cast-from
 cast-from c = search needs
@@ -52,10 +48,9 @@ same-length c = search needs
 returns-3 : tie.Need-returns-3
 returns-3 c =
     let f = c .before .before .before .before .before in
-    let s = f .before .before .before .before .before .before in
-    let o : inFlash (s .args .board .pages) (s .args .address) (length (s .args .bytes .now)) ≡ true = sym (f .before .in-flash .ensures) ∙ not-false _ (f .if2 .left) in
-    let e = flash-ends _ _ _ o in
-    λ ps h. twice (s .args .board .pages) (s .args .address) (s .args .bytes .now) ps (f .before .before .if1 .left) o (sym (bits-tell-given h (s .args .address) (s .args .bytes .now) o _ _ refl refl) ∙ not-false _ (sym (c .before .before .before .mark .ensures .0) ∙ not-true _ (c .if3 .taken)))
+    let o = sym (f .before .in-flash .ensures) ∙ not-false _ (f .if2 .left) in
+    let m = c .before .before .before .mark .ensures in
+    placing-twice _ _ _ _ _ _ (f .before .before .if1 .left) o _ _ refl refl _ (m .1) (not-false _ (sym (m .0) ∙ not-true _ (c .if3 .taken)))
 
 put-requires : tie.Need-put-requires
 put-requires c κs =
@@ -77,14 +72,10 @@ same-length-3 c = search needs
 returns-4 : tie.Need-returns-4
 returns-4 c =
     let f = c .before .before .before .before .before .before .before .before .before .before in
-    let s = f .before .before .before .before .before .before in
-    let o : inFlash (s .args .board .pages) (s .args .address) (length (s .args .bytes .now)) ≡ true = sym (f .before .in-flash .ensures) ∙ not-false _ (f .if2 .left) in
-    let e = flash-ends _ _ _ o in
+    let o = sym (f .before .in-flash .ensures) ∙ not-false _ (f .if2 .left) in
     let m = c .before .before .before .before .before .before .before .before .mark .ensures in
-    λ ps h.
-    let t = sym (bits-tell-given h (s .args .address) (s .args .bytes .now) o _ _ refl refl) ∙ not-true _ (sym (m .0) ∙ not-false _ (c .before .before .before .before .before .if3 .left)) in
-    let some = f .before .before .if1 .left in
-    (fresh (s .args .board .pages) (s .args .address) (s .args .bytes .now) ps some o t, rw (c .larger .ensures, with-piece (s .args .board .pages) (s .args .address) (s .args .bytes .now) ps some) (holds-with h (s .args .address) (s .args .bytes .now) o _ _ refl refl some _ _ (m .1) (c .before .before .before .put .ensures)))
+    let new = not-true _ (sym (m .0) ∙ not-false _ (c .before .before .before .before .before .if3 .left)) in
+    rw (c .larger .ensures) (placing-fresh _ _ _ _ _ _ (f .before .before .if1 .left) o _ _ refl refl _ (m .1) _ new (c .before .before .before .put .ensures))
 
 pub place-spec : {M : Type 1} → statement M
 place-spec =
