@@ -6,7 +6,7 @@ use libc::STDOUT_FILENO;
 use refusal::Refusal;
 use verdict::Verdict;
 
-const FLASH: usize = Board::LOGGER.pages as usize * Board::PAGE;
+const FLASH_BYTES: usize = Board::LOGGER.pages as usize * Board::PAGE;
 
 // The arguments of a call that names the file: the program's own name is the first.
 const NAMED: usize = 2;
@@ -25,7 +25,7 @@ fn put(image: &[u8]) {
 }
 
 fn make() {
-    let mut image = [0u8; FLASH];
+    let mut image = [0u8; FLASH_BYTES];
     let got = images::hex(
         STDERR_FILENO,
         telling::WORDS,

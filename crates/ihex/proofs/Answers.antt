@@ -14,21 +14,21 @@ use Rattle.refusal.specs.Order.{firstOf}
 use Rattle.refusal.specs.Delivery.{delivery}
 use Rattle.refusal.proofs.Delivery.{counted-bytes, counted-refused, delivers-refusal, delivers-eleven, delivers-bytes}
 use Rattle.pieces.specs.Image.{imageOf}
-use Rattle.ihex.specs.Reading.{readRefusals, piecesIn, readOf}
+use Rattle.ihex.specs.Reading.{hexReadRefusals, piecesIn, hexRead}
 use Rattle.ihex.specs.declared.Walked.{Walked}
 use Rattle.ihex.specs.Ways.{Walks}
 
 module _ {n : ℕ} {t image : List ℕ} {w : Walked} (h : Walks n t w image) where
-  pub walked-refused : (why : Refusal) (out : List ℕ) → w .done ≡ Refused why → delivery (Refused why) out ≡ readOf n t out
-  unfolding readOf
-  walked-refused why out e = delivers-refusal (readRefusals n t) _ out why (counted-refused _ (length (imageOf (piecesIn t))) why (sym (h .answer) ∙ e))
+  pub walked-refused : (why : Refusal) (out : List ℕ) → w .done ≡ Refused why → delivery (Refused why) out ≡ hexRead n t out
+  unfolding hexRead
+  walked-refused why out e = delivers-refusal (hexReadRefusals n t) _ out why (counted-refused _ (length (imageOf (piecesIn t))) why (sym (h .answer) ∙ e))
 
   module _ (size : ℕ) (e : w .done ≡ Bytes size) where
-    free : firstOf (readRefusals n t) ≡ admission.Admitted
-    free = counted-bytes (firstOf (readRefusals n t)) (length (imageOf (piecesIn t))) size (sym (h .answer) ∙ e) .0
+    free : firstOf (hexReadRefusals n t) ≡ admission.Admitted
+    free = counted-bytes (firstOf (hexReadRefusals n t)) (length (imageOf (piecesIn t))) size (sym (h .answer) ∙ e) .0
 
     is : size ≡ length (imageOf (piecesIn t))
-    is = counted-bytes (firstOf (readRefusals n t)) (length (imageOf (piecesIn t))) size (sym (h .answer) ∙ e) .1
+    is = counted-bytes (firstOf (hexReadRefusals n t)) (length (imageOf (piecesIn t))) size (sym (h .answer) ∙ e) .1
 
     front : take size image ≡ imageOf (piecesIn t)
     front = ap (λ (k : ℕ). take k image) is ∙ h .front free
@@ -40,13 +40,13 @@ module _ {n : ℕ} {t image : List ℕ} {w : Walked} (h : Walks n t w image) whe
         let r = min-le-right size (length image) in
         omega (arith, sym m ∙ l, r)
 
-    pub walked-short : (out : List ℕ) → length out < size → delivery (Refused Output) out ≡ readOf n t out
-    unfolding readOf
-    walked-short out s = delivers-eleven (readRefusals n t) (imageOf (piecesIn t)) out free (let k = is in let g : length out < length (imageOf (piecesIn t)) = omega arith in g)
+    pub walked-short : (out : List ℕ) → length out < size → delivery (Refused Output) out ≡ hexRead n t out
+    unfolding hexRead
+    walked-short out s = delivers-eleven (hexReadRefusals n t) (imageOf (piecesIn t)) out free (let k = is in let g : length out < length (imageOf (piecesIn t)) = omega arith in g)
 
-    pub walked-read : (out after : List ℕ) → size ≤ length out → after ≡ put 0 (take (size - 0) (drop 0 image)) out → delivery (Bytes size) after ≡ readOf n t out
-    unfolding readOf
+    pub walked-read : (out after : List ℕ) → size ≤ length out → after ≡ put 0 (take (size - 0) (drop 0 image)) out → delivery (Bytes size) after ≡ hexRead n t out
+    unfolding hexRead
     walked-read out after s laid =
         let z : size - 0 ≡ size = omega arith in
         let p : after ≡ put 0 (imageOf (piecesIn t)) out = laid ∙ ap (λ (k : ℕ). put 0 (take k image) out) z ∙ ap (λ (x : List ℕ). put 0 x out) front in
-        delivers-bytes (readRefusals n t) (imageOf (piecesIn t)) out free size after is (let k = is in let g : length (imageOf (piecesIn t)) ≤ length out = omega arith in g) p
+        delivers-bytes (hexReadRefusals n t) (imageOf (piecesIn t)) out free size after is (let k = is in let g : length (imageOf (piecesIn t)) ≤ length out = omega arith in g) p

@@ -18,10 +18,10 @@ use Rattle.refusal.specs.Order.{firstOf}
 use Rattle.refusal.proofs.Numbers.{refusal-injective}
 use Rattle.refusal.proofs.First.{by-admission, refused-not, first-here, first-on, first-none}
 use Rattle.board.specs.Span.{inFlash}
-use Rattle.record.specs.Record.{recordIn, typeOf, dataOf, wellFormed}
+use Rattle.record.specs.Record.{recordIn, typeOf, dataOf, goodRecord}
 use Rattle.pieces.specs.Image.{Piece, given}
 use Rattle.pieces.specs.Refusals.{none, pieceRefusals}
-use Rattle.ihex.specs.Reading.{addressOf, upperAfter, piecesAfter, ends, recordRefusals, endRefusals, refusalsFrom, faultyEnd, faultyFrom}
+use Rattle.ihex.specs.Reading.{dataAddress, upperAfter, givenAfter, ends, recordRefusals, endRefusals, refusalsFrom, faultyEnd, faultyFrom}
 use Rattle.ihex.proofs.Walking.{line-bad, line-refused, line-goes-on, line-ends}
 
 -- a refusal is one refusal, by its number and by its line
@@ -42,7 +42,7 @@ record-no-record : (n upper : ℕ) (ps : List Piece) (r : List ℕ) (m : ℕ) �
 unfolding recordRefusals
 record-no-record n upper ps r m e =
     by-bool (eqb (typeOf r) 0)
-    (λ t. piece-no-record n (addressOf upper r) (dataOf r) ps m (rw t at e))
+    (λ t. piece-no-record n (dataAddress upper r) (dataOf r) ps m (rw t at e))
     (λ t. let z : firstOf [] ≡ admission.Refused (Record m) = rw t at e in refused-not (Record m) (sym z ∙ first-none))
 
 -- what an answer says of the line: k is the first line that counts
@@ -68,7 +68,7 @@ not-record why z n upper ps r e = record-no-record n upper ps r (lineNamed why) 
 pub names-from : (n k upper : ℕ) (ps : List Piece) (ls : List (List ℕ)) → 1 ≤ k → Names (firstOf (refusalsFrom n k upper ps ls)) (faultyFrom n k upper ps ls)
 names-from n k upper ps [] one = names-missing n k upper ps one
 names-from n k upper ps (l ∷ ls) one =
-    by-bool (wellFormed l)
+    by-bool (goodRecord l)
     (λ good.
     by-admission (firstOf (recordRefusals n upper ps (recordIn l)))
     (λ own.
@@ -77,7 +77,7 @@ names-from n k upper ps (l ∷ ls) one =
     (λ e.
     let p = line-goes-on n k upper ps l ls good own e in
     let o : 1 ≤ suc k = omega arith in
-    rw (p .0, p .1) (names-from n (suc k) (upperAfter upper (recordIn l)) (piecesAfter upper ps (recordIn l)) ls o)))
+    rw (p .0, p .1) (names-from n (suc k) (upperAfter upper (recordIn l)) (givenAfter upper ps (recordIn l)) ls o)))
     (λ why own.
     let p = line-refused n k upper ps l ls good why own in
     rw (p .0, p .1) (one, λ z. absurd (not-record why z n upper ps (recordIn l) own))))

@@ -14,11 +14,11 @@ use Rattle.record.specs.Record.{lengthOf, offsetOf, typeOf, dataOf}
 use Rattle.pieces.specs.Image.{Piece}
 use Rattle.pieces.specs.Refusals.{withPiece, pieceRefusals}
 use Rattle.pieces.specs.Ways.{Placed}
-use Rattle.ihex.specs.Reading.{addressOf, upperAfter, piecesAfter, recordRefusals}
-use Rattle.ihex.specs.Ways.{Laid}
+use Rattle.ihex.specs.Reading.{dataAddress, upperAfter, givenAfter, recordRefusals}
+use Rattle.ihex.specs.Ways.{RecordPlaced}
 
-pub address-is : (upper word : ℕ) (r : List ℕ) → word ≡ getD r 1 0 * 256 + getD r 2 0 → upper * 0x10000 + word ≡ addressOf upper r
-unfolding addressOf offsetOf
+pub address-is : (upper word : ℕ) (r : List ℕ) → word ≡ getD r 1 0 * 256 + getD r 2 0 → upper * 0x10000 + word ≡ dataAddress upper r
+unfolding dataAddress offsetOf
 address-is upper word r e = rw e
 
 pub upper-here : (upper word : ℕ) (r : List ℕ) → getD r 3 0 ≡ 4 → word ≡ getD r 4 0 * 256 + getD r 5 0 → word ≡ upperAfter upper r
@@ -36,11 +36,11 @@ data-is r l =
     ap (λ (k : ℕ). take k (drop 4 r)) e
 
 module _ (n upper : ℕ) (ps : List Piece) (r : List ℕ) where
-  pub no-data : (getD r 3 0 ≡ 0 → ⊥) → (firstOf (recordRefusals n upper ps r) ≡ admission.Admitted) × (piecesAfter upper ps r ≡ ps)
-  unfolding recordRefusals piecesAfter typeOf
+  pub no-data : (getD r 3 0 ≡ 0 → ⊥) → (firstOf (recordRefusals n upper ps r) ≡ admission.Admitted) × (givenAfter upper ps r ≡ ps)
+  unfolding recordRefusals givenAfter typeOf
   no-data t = (rw (ne-eqb (getD r 3 0) 0 t) first-none, rw (ne-eqb (getD r 3 0) 0 t))
 
-  pub placed-laid : (d : Done) (a : ℕ) (xs bits image : List ℕ) → getD r 3 0 ≡ 0 → a ≡ addressOf upper r → xs ≡ dataOf r → Placed n a xs ps bits image d → Laid n upper ps r bits image d
-  unfolding recordRefusals piecesAfter typeOf
+  pub placed-laid : (d : Done) (a : ℕ) (xs bits image : List ℕ) → getD r 3 0 ≡ 0 → a ≡ dataAddress upper r → xs ≡ dataOf r → Placed n a xs ps bits image d → RecordPlaced n upper ps r bits image d
+  unfolding recordRefusals givenAfter typeOf
   placed-laid (Refused w) a xs bits image t is «data» h = rw (eq-eqb (getD r 3 0) 0 t, ← is, ← «data») h
   placed-laid (Bytes end) a xs bits image t is «data» h = (rw (eq-eqb (getD r 3 0) 0 t, ← is, ← «data») (h .0), rw (eq-eqb (getD r 3 0) 0 t, ← is, ← «data») (h .1))

@@ -10,7 +10,7 @@ use Rattle.refusal.specs.Delivery.{withOutput}
 use Rattle.record.specs.Record.{recordIn, typeOf}
 use Rattle.pieces.specs.Image.{Piece}
 use Rattle.ihex.specs.Reading.{recordRefusals, lineRefusals, endRefusals}
-use Rattle.ihex.specs.Writing.{textOf, writeRefusals}
+use Rattle.ihex.specs.Writing.{hexText, hexWriteRefusals}
 
 pub line-in-order : (n k upper : ℕ) (ps : List Piece) (l : List ℕ) → inOrder (lineRefusals n k upper ps l) ≡ true
 unfolding met before beforeAll inOrder recordRefusals lineRefusals
@@ -25,6 +25,6 @@ pub end-line-in-order : (n k upper : ℕ) (ps : List Piece) (l : List ℕ) (ls :
 unfolding met before beforeAll inOrder recordRefusals lineRefusals
 end-line-in-order n k upper ps l ls xs out t = rw t
 
-pub write-in-order : (n : ℕ) (xs out : List ℕ) → inOrder (withOutput (writeRefusals n xs) (textOf xs) out) ≡ true
+pub write-in-order : (n : ℕ) (xs out : List ℕ) → inOrder (withOutput (hexWriteRefusals n xs) (hexText xs) out) ≡ true
 unfolding met before beforeAll inOrder
 write-in-order n xs out = refl

@@ -21,15 +21,15 @@ use Rattle.refusal.specs.Order.{firstOf}
 use Rattle.refusal.proofs.First.{first-on, first-none}
 use Rattle.board.specs.Layout.{flashFirst, flashBytes}
 use Rattle.board.specs.Span.{spans, inFlash}
-use Rattle.record.specs.Record.{typeOf, lengthOf, offsetOf, dataOf, suits, sound, wellFormed, recordIn, summed, recordOf, lineOf}
+use Rattle.record.specs.Record.{typeOf, lengthOf, offsetOf, dataOf, suits, sound, goodRecord, recordIn, summed, recordOf, recordLine, offsetCount}
 use Rattle.record.proofs.Written.{written-record, written-formed, written-lines, made-type, made-offset, made-data, made-whole, made-sound, made-bytes}
 use Rattle.pieces.specs.Image.{Piece, gives, given, byteAt, larger, reach, bytesFrom, imageOf}
 use Rattle.pieces.specs.Refusals.{withPiece, pieceRefusals, none}
 use Rattle.pieces.proofs.Placing.{fresh, with-piece}
 use Rattle.pieces.proofs.Images.{from-length, from-at}
-use Rattle.ihex.specs.Reading.{addressOf, upperAfter, piecesAfter, ends, recordRefusals, endRefusals, refusalsFrom, piecesFrom, readRefusals, piecesIn}
-use Rattle.ihex.specs.Writing.{upperLine, endLine, textOf}
-use Rattle.ihex.specs.Ways.{mostBytes, dataText}
+use Rattle.ihex.specs.Reading.{dataAddress, upperAfter, givenAfter, ends, recordRefusals, endRefusals, refusalsFrom, piecesFrom, hexReadRefusals, piecesIn}
+use Rattle.ihex.specs.Writing.{upperLine, endLine, hexText}
+use Rattle.ihex.specs.Ways.{dataText}
 use Rattle.ihex.proofs.Laying.{no-data}
 use Rattle.ihex.proofs.Walking.{line-goes-on, line-ends}
 use Rattle.ihex.proofs.Writing.{left, left-start, left-none, left-first, text-is}
@@ -107,7 +107,7 @@ module _ (xs : List ℕ) (from : ℕ) (more : from < length xs) (ps : List Piece
 
 -- the upper half of the first flash address
 abbrev upper : ℕ
-upper = flashFirst / 0x10000
+upper = flashFirst / offsetCount
 
 -- a line that was written of a record r: its record is r
 module _ (type offset : ℕ) (xs : List ℕ) (t : type < 256) (o : offset < 65536) (l : length xs < 256) (b : allBytes xs ≡ true) (suit : suits type (length xs) offset ≡ true) where
@@ -117,22 +117,22 @@ module _ (type offset : ℕ) (xs : List ℕ) (t : type < 256) (o : offset < 6553
   bytes : allBytes made ≡ true
   bytes = made-bytes type offset xs t o l b
 
-  line-record : recordIn (lineOf made) ≡ made
+  line-record : recordIn (recordLine made) ≡ made
   line-record = written-record made bytes (made-whole type offset xs)
 
-  line-formed : wellFormed (lineOf made) ≡ true
+  line-formed : goodRecord (recordLine made) ≡ true
   line-formed = written-formed made bytes (made-whole type offset xs) (made-sound type offset xs suit)
 
-  line-before : (s : List ℕ) → linesOf (lineOf made ++ s) ≡ lineOf made ∷ linesOf s
+  line-before : (s : List ℕ) → linesOf (recordLine made ++ s) ≡ recordLine made ∷ linesOf s
   line-before s = written-lines made bytes (made-whole type offset xs) s
 
-  line-type : typeOf (recordIn (lineOf made)) ≡ type
+  line-type : typeOf (recordIn (recordLine made)) ≡ type
   line-type = ap typeOf line-record ∙ made-type type offset xs
 
   -- without data nothing is refused, and nothing is given
-  line-own : (n up : ℕ) (ps : List Piece) → (type ≡ 0 → ⊥) → (firstOf (recordRefusals n up ps (recordIn (lineOf made))) ≡ Admitted) × (piecesAfter up ps (recordIn (lineOf made)) ≡ ps)
+  line-own : (n up : ℕ) (ps : List Piece) → (type ≡ 0 → ⊥) → (firstOf (recordRefusals n up ps (recordIn (recordLine made))) ≡ Admitted) × (givenAfter up ps (recordIn (recordLine made)) ≡ ps)
   unfolding typeOf
-  line-own n up ps z = no-data n up ps (recordIn (lineOf made)) (λ e. z (sym line-type ∙ e))
+  line-own n up ps z = no-data n up ps (recordIn (recordLine made)) (λ e. z (sym line-type ∙ e))
 
 upper-told : upperAfter 0 (recordOf 4 0 (8 ∷ 0 ∷ [])) ≡ upper
 unfolding upperAfter typeOf recordOf summed
@@ -151,14 +151,14 @@ image-is {xs} ps g =
     from-at ps flashFirst (reach ps - flashFirst) i k ∙ g .bytes i m)
 
 -- the data of an image of at most flash
-module _ (n : ℕ) (xs : List ℕ) (b : allBytes xs ≡ true) (fits : length xs ≤ flashBytes n) (most : length xs ≤ mostBytes) where
+module _ (n : ℕ) (xs : List ℕ) (b : allBytes xs ≡ true) (fits : length xs ≤ flashBytes n) (most : length xs ≤ offsetCount) where
   -- a data record: what it comes to
   module _ (from : ℕ) (more : from < length xs) (ps : List Piece) (g : Gives xs from ps) where
     abbrev xs₀ : List ℕ
     xs₀ = take 16 (drop from xs)
 
     abbrev l : List ℕ
-    l = lineOf (recordOf 0 from xs₀)
+    l = recordLine (recordOf 0 from xs₀)
 
     small : from < 65536
     small = omega arith
@@ -176,14 +176,14 @@ module _ (n : ℕ) (xs : List ℕ) (b : allBytes xs ≡ true) (fits : length xs 
     is : recordIn l ≡ recordOf 0 from xs₀
     is = line-record 0 from xs₀ (omega arith) small short part-bytes suit
 
-    formed : wellFormed l ≡ true
+    formed : goodRecord l ≡ true
     formed = line-formed 0 from xs₀ (omega arith) small short part-bytes suit
 
     type : typeOf (recordIn l) ≡ 0
     type = line-type 0 from xs₀ (omega arith) small short part-bytes suit
 
-    address : addressOf upper (recordIn l) ≡ flashFirst + from
-    unfolding addressOf
+    address : dataAddress upper (recordIn l) ≡ flashFirst + from
+    unfolding dataAddress
     address = let e : offsetOf (recordIn l) ≡ from = ap offsetOf is ∙ made-offset 0 from xs₀ in omega arith
 
     its-data : dataOf (recordIn l) ≡ xs₀
@@ -213,8 +213,8 @@ module _ (n : ℕ) (xs : List ℕ) (b : allBytes xs ≡ true) (fits : length xs 
     unfolding recordRefusals
     own = rw (eq-eqb (typeOf (recordIn l)) 0 type, address, its-data) (fresh n (flashFirst + from) xs₀ ps some inside unseen)
 
-    pieces : piecesAfter upper ps (recordIn l) ≡ record { address = flashFirst + from; bytes = xs₀ } ∷ ps
-    unfolding piecesAfter
+    pieces : givenAfter upper ps (recordIn l) ≡ record { address = flashFirst + from; bytes = xs₀ } ∷ ps
+    unfolding givenAfter
     pieces = rw (eq-eqb (typeOf (recordIn l)) 0 type, address, its-data) (with-piece n (flashFirst + from) xs₀ ps some)
 
     upper-same : upperAfter upper (recordIn l) ≡ upper
@@ -271,17 +271,17 @@ module _ (n : ℕ) (xs : List ℕ) (b : allBytes xs ≡ true) (fits : length xs 
         let next : Gives xs (leastOf (from + 16) (length xs)) (piece xs from more ps f ∷ ps) = rw (part-end xs from more ps f) at (gives-more xs from more ps f) in
         let m : length xs ≤ from + 16 + j * 16 = omega arith in
         let o = over-data j (from + 16) (suc k) (piece xs from more ps f ∷ ps) m next in
-        let e : left xs from ++ endLine ≡ lineOf (recordOf 0 from (take 16 (drop from xs))) ++ (left xs (from + 16) ++ endLine) = ap (λ (l : List ℕ). l ++ endLine) (left-first xs from more) ∙ append-assoc (lineOf (recordOf 0 from (take 16 (drop from xs)))) (left xs (from + 16)) endLine in
+        let e : left xs from ++ endLine ≡ recordLine (recordOf 0 from (take 16 (drop from xs))) ++ (left xs (from + 16) ++ endLine) = ap (λ (l : List ℕ). l ++ endLine) (left-first xs from more) ∙ append-assoc (recordLine (recordOf 0 from (take 16 (drop from xs)))) (left xs (from + 16)) endLine in
         let p = record-on from more ps f k (left xs (from + 16) ++ endLine) in
         rw e (record { free = p .0 ∙ o .free; all = rw (p .1) (o .all) }))
         (λ past. over-end from k ps past g)
 
     -- the first line brings the upper half
-    first-line : (firstOf (readRefusals n (textOf xs)) ≡ firstOf (refusalsFrom n 2 upper [] (linesOf (dataText xs ++ endLine)))) × (piecesIn (textOf xs) ≡ piecesFrom upper [] (linesOf (dataText xs ++ endLine)))
+    first-line : (firstOf (hexReadRefusals n (hexText xs)) ≡ firstOf (refusalsFrom n 2 upper [] (linesOf (dataText xs ++ endLine)))) × (piecesIn (hexText xs) ≡ piecesFrom upper [] (linesOf (dataText xs ++ endLine)))
     unfolding suits allBytes ends upperAfter
     first-line =
         let s = dataText xs ++ endLine in
-        let lines : linesOf (textOf xs) ≡ upperLine ∷ linesOf s = ap linesOf (text-is xs) ∙ line-before 4 0 (8 ∷ 0 ∷ []) (omega arith) (omega arith) (omega arith) refl refl s in
+        let lines : linesOf (hexText xs) ≡ upperLine ∷ linesOf s = ap linesOf (text-is xs) ∙ line-before 4 0 (8 ∷ 0 ∷ []) (omega arith) (omega arith) (omega arith) refl refl s in
         let good = line-formed 4 0 (8 ∷ 0 ∷ []) (omega arith) (omega arith) (omega arith) refl refl in
         let type = line-type 4 0 (8 ∷ 0 ∷ []) (omega arith) (omega arith) (omega arith) refl refl in
         let own = line-own 4 0 (8 ∷ 0 ∷ []) (omega arith) (omega arith) (omega arith) refl refl n 0 [] (λ e. omega arith) in
@@ -298,8 +298,8 @@ module _ (n : ℕ) (xs : List ℕ) (b : allBytes xs ≡ true) (fits : length xs 
         let m : length xs ≤ 0 + length xs * 16 = omega arith in
         rw (sym (left-start xs)) (over-data (length xs) 0 2 [] m g)
 
-    pub text-free : firstOf (readRefusals n (textOf xs)) ≡ Admitted
+    pub text-free : firstOf (hexReadRefusals n (hexText xs)) ≡ Admitted
     text-free = first-line .0 ∙ over-text .free
 
-    pub text-image : imageOf (piecesIn (textOf xs)) ≡ xs
+    pub text-image : imageOf (piecesIn (hexText xs)) ≡ xs
     text-image = ap imageOf (first-line .1) ∙ image-is (piecesFrom upper [] (linesOf (dataText xs ++ endLine))) (over-text .all)

@@ -22,21 +22,21 @@ use Rattle.refusal.specs.declared.Done.the-variants.{Bytes, Refused}
 use Rattle.refusal.specs.Order.{firstOf}
 use Rattle.refusal.specs.Delivery.{counted}
 use Rattle.refusal.proofs.First.{first-here, first-on, first-none, first-append, refused-not}
-use Rattle.record.specs.Record.{recordIn, typeOf, wellFormed}
-use Rattle.record.specs.Ways.{lineLength, recordLaid}
+use Rattle.record.specs.Record.{recordIn, typeOf, goodRecord}
+use Rattle.record.specs.Ways.{recordLineLength, recordLaid}
 use Rattle.record.proofs.Learnt.{Reads, reads, bad-record}
 use Rattle.pieces.specs.Image.{Piece, imageOf}
 use Rattle.pieces.specs.Refusals.{none}
 use Rattle.pieces.specs.Ways.{Holds}
 use Rattle.pieces.proofs.Images.{image-length, image-front}
-use Rattle.ihex.specs.Reading.{upperAfter, piecesAfter, ends, recordRefusals, lineRefusals, endRefusals, refusalsFrom, piecesFrom, readRefusals, piecesIn, faultyEnd, faultyFrom, faultyLine, applies}
+use Rattle.ihex.specs.Reading.{upperAfter, givenAfter, ends, recordRefusals, lineRefusals, endRefusals, refusalsFrom, piecesFrom, hexReadRefusals, piecesIn, faultyEnd, faultyFrom, faultyLine, applies}
 use Rattle.ihex.specs.declared.Walked.{Walked}
-use Rattle.ihex.specs.Ways.{Laid, stoppedOf, endedOf, Walks}
+use Rattle.ihex.specs.Ways.{RecordPlaced, stoppedOf, endedOf, Walks}
 use Rattle.ihex.proofs.Laying.{no-data}
 
 -- at a place of a text, before line number k: what is left comes to what the whole text comes to, and all holds that was given
 pub record Sofar (n : ℕ) (t : List ℕ) (at k upper end : ℕ) (bits image : List ℕ) (ps : List Piece) : Type 0 where
-  pub refusals : firstOf (refusalsFrom n k upper ps (linesOf (drop at t))) ≡ firstOf (readRefusals n t)
+  pub refusals : firstOf (refusalsFrom n k upper ps (linesOf (drop at t))) ≡ firstOf (hexReadRefusals n t)
   pub line : faultyFrom n k upper ps (linesOf (drop at t)) ≡ faultyLine n t
   pub pieces : piecesFrom upper ps (linesOf (drop at t)) ≡ piecesIn t
   pub holds : Holds n ps bits image end
@@ -47,7 +47,7 @@ pub sofar-start : (n : ℕ) (t bits image : List ℕ) → Holds n [] bits image 
 sofar-start n t bits image h = record { refusals = refl; line = refl; pieces = refl; holds = h; within = omega arith; numbered = omega arith }
 
 -- a fault ends the walk
-pub stops : (n : ℕ) (t image : List ℕ) (why : Refusal) (k : ℕ) (w : Walked) → w ≡ stoppedOf why k → firstOf (readRefusals n t) ≡ admission.Refused why → faultyLine n t ≡ k → Walks n t w image
+pub stops : (n : ℕ) (t image : List ℕ) (why : Refusal) (k : ℕ) (w : Walked) → w ≡ stoppedOf why k → firstOf (hexReadRefusals n t) ≡ admission.Refused why → faultyLine n t ≡ k → Walks n t w image
 stops n t image why k w is e f =
     record {
       answer = ap (λ (x : Walked). x .done) is ∙ sym (ap (λ (a : Admission). counted a (length (imageOf (piecesIn t)))) e);
@@ -58,15 +58,15 @@ stops n t image why k w is e f =
 -- a line at the front of what is left
 module _ (n k upper : ℕ) (ps : List Piece) (l : List ℕ) (ls : List (List ℕ)) where
   rest : List (Refusal × Bool)
-  rest = cond (ends (recordIn l)) (endRefusals ps ls) (refusalsFrom n (suc k) (upperAfter upper (recordIn l)) (piecesAfter upper ps (recordIn l)) ls)
+  rest = cond (ends (recordIn l)) (endRefusals ps ls) (refusalsFrom n (suc k) (upperAfter upper (recordIn l)) (givenAfter upper ps (recordIn l)) ls)
 
-  pub line-bad : wellFormed l ≡ false → (firstOf (refusalsFrom n k upper ps (l ∷ ls)) ≡ admission.Refused (Record k)) × (faultyFrom n k upper ps (l ∷ ls) ≡ k)
+  pub line-bad : goodRecord l ≡ false → (firstOf (refusalsFrom n k upper ps (l ∷ ls)) ≡ admission.Refused (Record k)) × (faultyFrom n k upper ps (l ∷ ls) ≡ k)
   unfolding refusalsFrom lineRefusals faultyFrom
   line-bad b =
-      let first : (zs : List (Refusal × Bool)) → firstOf ((Record k, not (wellFormed l)) ∷ zs) ≡ admission.Refused (Record k) = λ zs. first-here _ _ _ (rw b) in
+      let first : (zs : List (Refusal × Bool)) → firstOf ((Record k, not (goodRecord l)) ∷ zs) ≡ admission.Refused (Record k) = λ zs. first-here _ _ _ (rw b) in
       (first _, rw (first (recordRefusals n upper ps (recordIn l))))
 
-  module _ (good : wellFormed l ≡ true) where
+  module _ (good : goodRecord l ≡ true) where
     line-own : (a : Admission) → firstOf (recordRefusals n upper ps (recordIn l)) ≡ a → firstOf (lineRefusals n k upper ps l) ≡ a
     unfolding lineRefusals
     line-own a e = first-on _ _ _ (rw good) ∙ e
@@ -81,7 +81,7 @@ module _ (n k upper : ℕ) (ps : List Piece) (l : List ℕ) (ls : List (List ℕ
       own : firstOf (lineRefusals n k upper ps l) ≡ admission.Admitted
       own = line-own admission.Admitted none-own
 
-      pub line-goes-on : ends (recordIn l) ≡ false → (firstOf (refusalsFrom n k upper ps (l ∷ ls)) ≡ firstOf (refusalsFrom n (suc k) (upperAfter upper (recordIn l)) (piecesAfter upper ps (recordIn l)) ls)) × (faultyFrom n k upper ps (l ∷ ls) ≡ faultyFrom n (suc k) (upperAfter upper (recordIn l)) (piecesAfter upper ps (recordIn l)) ls) × (piecesFrom upper ps (l ∷ ls) ≡ piecesFrom (upperAfter upper (recordIn l)) (piecesAfter upper ps (recordIn l)) ls)
+      pub line-goes-on : ends (recordIn l) ≡ false → (firstOf (refusalsFrom n k upper ps (l ∷ ls)) ≡ firstOf (refusalsFrom n (suc k) (upperAfter upper (recordIn l)) (givenAfter upper ps (recordIn l)) ls)) × (faultyFrom n k upper ps (l ∷ ls) ≡ faultyFrom n (suc k) (upperAfter upper (recordIn l)) (givenAfter upper ps (recordIn l)) ls) × (piecesFrom upper ps (l ∷ ls) ≡ piecesFrom (upperAfter upper (recordIn l)) (givenAfter upper ps (recordIn l)) ls)
       unfolding refusalsFrom faultyFrom piecesFrom rest
       line-goes-on e = (first-append (lineRefusals n k upper ps l) rest admission.Admitted own ∙ rw e, rw (own, e), rw e)
 
@@ -99,7 +99,7 @@ lines-none (x ∷ v) =
     ap none (lines-first (x ∷ v) h) ∙ sym (ne-eqb (length (x ∷ v)) 0 z)
 
 -- the end record: what stands behind it, and what was given, decide
-module _ (n : ℕ) (t bits image : List ℕ) (ps : List Piece) (end k left : ℕ) (ls : List (List ℕ)) (w : Walked) (is : w ≡ endedOf left end k) (h : Holds n ps bits image end) (behind : none ls ≡ eqb left 0) (refusals : firstOf (endRefusals ps ls) ≡ firstOf (readRefusals n t)) (line : faultyEnd k ps ls ≡ faultyLine n t) (pieces : ps ≡ piecesIn t) where
+module _ (n : ℕ) (t bits image : List ℕ) (ps : List Piece) (end k left : ℕ) (ls : List (List ℕ)) (w : Walked) (is : w ≡ endedOf left end k) (h : Holds n ps bits image end) (behind : none ls ≡ eqb left 0) (refusals : firstOf (endRefusals ps ls) ≡ firstOf (hexReadRefusals n t)) (line : faultyEnd k ps ls ≡ faultyLine n t) (pieces : ps ≡ piecesIn t) where
   text-behind : (left ≡ 0 → ⊥) → Walks n t w image
   unfolding endedOf
   text-behind z =
@@ -128,7 +128,7 @@ module _ (n : ℕ) (t bits image : List ℕ) (ps : List Piece) (end k left : ℕ
         let p : none ps ≡ false = h .some ∙ ne-eqb end 0 y in
         let e : endedOf left end k ≡ record { done = Bytes end; line = 0 } = rw (eq-eqb left 0 z, ne-eqb end 0 y) in
         let f : faultyEnd k ps ls ≡ 0 = rw (b, p) in
-        let free : firstOf (readRefusals n t) ≡ admission.Admitted = sym refusals ∙ first-on _ _ _ (rw b) ∙ first-on _ _ _ p ∙ first-none in
+        let free : firstOf (hexReadRefusals n t) ≡ admission.Admitted = sym refusals ∙ first-on _ _ _ (rw b) ∙ first-on _ _ _ p ∙ first-none in
         let l : length (imageOf (piecesIn t)) ≡ end = ap (λ (qs : List Piece). length (imageOf qs)) (sym pieces) ∙ image-length h in
         record {
           answer = ap (λ (x : Walked). x .done) (is ∙ e) ∙ ap Bytes (sym l) ∙ sym (ap (λ (a : Admission). counted a (length (imageOf (piecesIn t)))) free);
@@ -142,7 +142,7 @@ module _ (n : ℕ) (t bits image : List ℕ) (ps : List Piece) (end k left : ℕ
 -- from a place of the text on
 module _ {n : ℕ} {t bits image : List ℕ} {at k upper end : ℕ} {ps : List Piece} (s : Sofar n t at k upper end bits image ps) where
   -- no line is left
-  pub walk-over : length t ≤ at → (firstOf (readRefusals n t) ≡ admission.Refused Unended) × (faultyLine n t ≡ k)
+  pub walk-over : length t ≤ at → (firstOf (hexReadRefusals n t) ≡ admission.Refused Unended) × (faultyLine n t ≡ k)
   unfolding linesOf refusalsFrom faultyFrom
   walk-over h =
       let e : linesOf (drop at t) ≡ [] = ap linesOf (drop-of-length-le t h) in
@@ -161,7 +161,7 @@ module _ {n : ℕ} {t bits image : List ℕ} {at k upper end : ℕ} {ps : List P
     lines : linesOf (drop at t) ≡ l ∷ ls
     lines = lines-first (drop at t) (let h : 0 < length (drop at t) = let d = size in omega arith in h)
 
-    refusals : firstOf (refusalsFrom n k upper ps (l ∷ ls)) ≡ firstOf (readRefusals n t)
+    refusals : firstOf (refusalsFrom n k upper ps (l ∷ ls)) ≡ firstOf (hexReadRefusals n t)
     refusals = sym (ap (λ (x : List (List ℕ)). firstOf (refusalsFrom n k upper ps x)) lines) ∙ s .refusals
 
     faulty : faultyFrom n k upper ps (l ∷ ls) ≡ faultyLine n t
@@ -170,11 +170,11 @@ module _ {n : ℕ} {t bits image : List ℕ} {at k upper end : ℕ} {ps : List P
     pieces : piecesFrom upper ps (l ∷ ls) ≡ piecesIn t
     pieces = sym (ap (piecesFrom upper ps) lines) ∙ s .pieces
 
-    pub walk-bad : wellFormed l ≡ false → (firstOf (readRefusals n t) ≡ admission.Refused (Record k)) × (faultyLine n t ≡ k)
+    pub walk-bad : goodRecord l ≡ false → (firstOf (hexReadRefusals n t) ≡ admission.Refused (Record k)) × (faultyLine n t ≡ k)
     walk-bad b = let p = line-bad n k upper ps l ls b in (sym refusals ∙ p .0, sym faulty ∙ p .1)
 
-    module _ (good : wellFormed l ≡ true) where
-      pub walk-refused : (why : Refusal) → firstOf (recordRefusals n upper ps (recordIn l)) ≡ admission.Refused why → (firstOf (readRefusals n t) ≡ admission.Refused why) × (faultyLine n t ≡ k)
+    module _ (good : goodRecord l ≡ true) where
+      pub walk-refused : (why : Refusal) → firstOf (recordRefusals n upper ps (recordIn l)) ≡ admission.Refused why → (firstOf (hexReadRefusals n t) ≡ admission.Refused why) × (faultyLine n t ≡ k)
       walk-refused why e = let p = line-refused n k upper ps l ls good why e in (sym refusals ∙ p .0, sym faulty ∙ p .1)
 
       module _ (line : ℕ) (is : line ≡ length l) where
@@ -184,7 +184,7 @@ module _ {n : ℕ} {t bits image : List ℕ} {at k upper end : ℕ} {ps : List P
         pub line-within : at + line ≤ length t
         line-within = let f = first-length (drop at t) in let d = size in omega arith
 
-        pub walk-on : (bits′ image′ : List ℕ) (upper′ end′ : ℕ) → 12 ≤ length l → (typeOf (recordIn l) ≡ 1 → ⊥) → firstOf (recordRefusals n upper ps (recordIn l)) ≡ admission.Admitted → Holds n (piecesAfter upper ps (recordIn l)) bits′ image′ end′ → upper′ ≡ upperAfter upper (recordIn l) → Sofar n t (at + line) (k + 1) upper′ end′ bits′ image′ (piecesAfter upper ps (recordIn l))
+        pub walk-on : (bits′ image′ : List ℕ) (upper′ end′ : ℕ) → 12 ≤ length l → (typeOf (recordIn l) ≡ 1 → ⊥) → firstOf (recordRefusals n upper ps (recordIn l)) ≡ admission.Admitted → Holds n (givenAfter upper ps (recordIn l)) bits′ image′ end′ → upper′ ≡ upperAfter upper (recordIn l) → Sofar n t (at + line) (k + 1) upper′ end′ bits′ image′ (givenAfter upper ps (recordIn l))
         unfolding ends
         walk-on bits′ image′ upper′ end′ long type none-own holds up =
             let p = line-goes-on n k upper ps l ls good none-own (ne-eqb (typeOf (recordIn l)) 1 type) in
@@ -192,9 +192,9 @@ module _ {n : ℕ} {t bits image : List ℕ} {at k upper end : ℕ} {ps : List P
             let m = s .numbered in
             rw (up, add-one k)
             (record {
-              refusals = ap (λ (x : List (List ℕ)). firstOf (refusalsFrom n (suc k) (upperAfter upper (recordIn l)) (piecesAfter upper ps (recordIn l)) x)) (sym e) ∙ sym (p .0) ∙ refusals;
-              line = ap (faultyFrom n (suc k) (upperAfter upper (recordIn l)) (piecesAfter upper ps (recordIn l))) (sym e) ∙ sym (p .1) ∙ faulty;
-              pieces = ap (piecesFrom (upperAfter upper (recordIn l)) (piecesAfter upper ps (recordIn l))) (sym e) ∙ sym (p .2) ∙ pieces;
+              refusals = ap (λ (x : List (List ℕ)). firstOf (refusalsFrom n (suc k) (upperAfter upper (recordIn l)) (givenAfter upper ps (recordIn l)) x)) (sym e) ∙ sym (p .0) ∙ refusals;
+              line = ap (faultyFrom n (suc k) (upperAfter upper (recordIn l)) (givenAfter upper ps (recordIn l))) (sym e) ∙ sym (p .1) ∙ faulty;
+              pieces = ap (piecesFrom (upperAfter upper (recordIn l)) (givenAfter upper ps (recordIn l))) (sym e) ∙ sym (p .2) ∙ pieces;
               holds = holds;
               within = line-within;
               numbered = let g : suc k * 2 ≤ at + line + 2 = omega arith in g;
@@ -210,18 +210,18 @@ module _ {n : ℕ} {t bits image : List ℕ} {at k upper end : ℕ} {ps : List P
             walk-ended n t bits image ps end k (length t - at - line) ls w we (s .holds) (lines-none (drop (length l) (drop at t)) ∙ ap (λ (m : ℕ). eqb m 0) left) (sym (p .0) ∙ refusals) (sym (p .1) ∙ faulty) (sym (p .2) ∙ pieces)
 
 -- what a call of `read` at a place of the text tells, which sees the text from there on
-pub line-read : (t : List ℕ) (at : ℕ) (out after : List ℕ) (line : ℕ) → line ≡ lineLength (take (length t - at) (drop at t)) → after ≡ recordLaid (take (length t - at) (drop at t)) out → 260 ≤ length out → (line ≡ 0 → ⊥) → Reads (drop at t) out after × (line ≡ length (firstLine (drop at t)))
-line-read t at out after line e laid room z = reads (drop at t) out after line (e ∙ ap lineLength (whole-rest at t)) z (laid ∙ ap (λ (u : List ℕ). recordLaid u out) (whole-rest at t)) room
+pub line-read : (t : List ℕ) (at : ℕ) (out after : List ℕ) (line : ℕ) → line ≡ recordLineLength (take (length t - at) (drop at t)) → after ≡ recordLaid (take (length t - at) (drop at t)) out → 260 ≤ length out → (line ≡ 0 → ⊥) → Reads (drop at t) out after × (line ≡ length (firstLine (drop at t)))
+line-read t at out after line e laid room z = reads (drop at t) out after line (e ∙ ap recordLineLength (whole-rest at t)) z (laid ∙ ap (λ (u : List ℕ). recordLaid u out) (whole-rest at t)) room
 
-pub line-bad-read : (t : List ℕ) (at line : ℕ) → at < length t → line ≡ lineLength (take (length t - at) (drop at t)) → line ≡ 0 → wellFormed (firstLine (drop at t)) ≡ false
+pub line-bad-read : (t : List ℕ) (at line : ℕ) → at < length t → line ≡ recordLineLength (take (length t - at) (drop at t)) → line ≡ 0 → goodRecord (firstLine (drop at t)) ≡ false
 line-bad-read t at line more e z =
     let d = length-drop at t in
     let some : 0 < length (drop at t) = omega arith in
-    bad-record (drop at t) some (sym (e ∙ ap lineLength (whole-rest at t)) ∙ z)
+    bad-record (drop at t) some (sym (e ∙ ap recordLineLength (whole-rest at t)) ∙ z)
 
 -- what a call of `lay` tells, by its answer
-pub laid-refused : (n upper : ℕ) (ps : List Piece) (r r′ bits image : List ℕ) (d : Done) (why : Refusal) → r ≡ r′ → d ≡ Refused why → Laid n upper ps r bits image d → firstOf (recordRefusals n upper ps r′) ≡ admission.Refused why
+pub laid-refused : (n upper : ℕ) (ps : List Piece) (r r′ bits image : List ℕ) (d : Done) (why : Refusal) → r ≡ r′ → d ≡ Refused why → RecordPlaced n upper ps r bits image d → firstOf (recordRefusals n upper ps r′) ≡ admission.Refused why
 laid-refused n upper ps r r′ bits image d why e f h = rw (e, f) at h
 
-pub laid-bytes : (n upper : ℕ) (ps : List Piece) (r r′ bits image : List ℕ) (d : Done) (end : ℕ) → r ≡ r′ → d ≡ Bytes end → Laid n upper ps r bits image d → (firstOf (recordRefusals n upper ps r′) ≡ admission.Admitted) × Holds n (piecesAfter upper ps r′) bits image end
+pub laid-bytes : (n upper : ℕ) (ps : List Piece) (r r′ bits image : List ℕ) (d : Done) (end : ℕ) → r ≡ r′ → d ≡ Bytes end → RecordPlaced n upper ps r bits image d → (firstOf (recordRefusals n upper ps r′) ≡ admission.Admitted) × Holds n (givenAfter upper ps r′) bits image end
 laid-bytes n upper ps r r′ bits image d end e f h = rw (e, f) at h

@@ -12,12 +12,12 @@ use Rattle.laws.proofs.Append.{sets-append, put-behind}
 use Rattle.laws.proofs.Split.{by-lt}
 use Rattle.buffer.specs.Least.{leastOf}
 use Rattle.board.specs.Layout.{flashFirst}
-use Rattle.record.specs.Record.{recordOf, lineOf}
+use Rattle.record.specs.Record.{recordOf, recordLine, offsetCount}
 use Rattle.record.proofs.Writing.{line-length-of, record-length-of}
-use Rattle.ihex.specs.Writing.{recordBytes, recordsOf, upperLine, dataLines, endLine, textOf}
-use Rattle.ihex.specs.Ways.{mostBytes, dataText}
+use Rattle.ihex.specs.Writing.{recordBytes, recordsOf, upperLine, dataLines, endLine, hexText}
+use Rattle.ihex.specs.Ways.{dataText}
 
-pub written-length : (type offset : ℕ) (xs : List ℕ) → length (lineOf (recordOf type offset xs)) ≡ 12 + length xs * 2
+pub written-length : (type offset : ℕ) (xs : List ℕ) → length (recordLine (recordOf type offset xs)) ≡ 12 + length xs * 2
 written-length type offset xs =
     let a = line-length-of (recordOf type offset xs) in
     let b = record-length-of type offset xs in
@@ -33,12 +33,12 @@ data-length (suc k) offset xs e =
     let f : k ≡ recordsOf (length (drop 16 xs)) = omega arith in
     let i = data-length k (offset + 16) (drop 16 xs) f in
     let w = written-length 0 offset (take 16 xs) in
-    let l = length-append (lineOf (recordOf 0 offset (take 16 xs))) (dataLines k (offset + 16) (drop 16 xs)) in
+    let l = length-append (recordLine (recordOf 0 offset (take 16 xs))) (dataLines k (offset + 16) (drop 16 xs)) in
     omega arith
 
 pub data-text-length : (xs : List ℕ) → length (dataText xs) ≡ recordsOf (length xs) * 12 + length xs * 2
 unfolding dataText
-data-text-length xs = data-length (recordsOf (length xs)) (flashFirst % 0x10000) xs refl
+data-text-length xs = data-length (recordsOf (length xs)) (flashFirst % offsetCount) xs refl
 
 upper-length : length upperLine ≡ 16
 upper-length = written-length 4 0 (8 ∷ 0 ∷ [])
@@ -46,11 +46,11 @@ upper-length = written-length 4 0 (8 ∷ 0 ∷ [])
 end-length : length endLine ≡ 12
 end-length = written-length 1 0 []
 
-pub text-is : (xs : List ℕ) → textOf xs ≡ upperLine ++ (dataText xs ++ endLine)
-unfolding textOf dataText
+pub text-is : (xs : List ℕ) → hexText xs ≡ upperLine ++ (dataText xs ++ endLine)
+unfolding hexText dataText
 text-is xs = refl
 
-pub text-length : (xs : List ℕ) → length (textOf xs) ≡ 28 + recordsOf (length xs) * 12 + length xs * 2
+pub text-length : (xs : List ℕ) → length (hexText xs) ≡ 28 + recordsOf (length xs) * 12 + length xs * 2
 text-length xs =
     let d = data-text-length xs in
     let u = upper-length in
@@ -72,14 +72,14 @@ pub left-none : (xs : List ℕ) (from : ℕ) → length xs ≤ from → left xs 
 unfolding left dataLines
 left-none xs from h = rw (drop-of-length-le xs h)
 
-pub left-first : (xs : List ℕ) (from : ℕ) → from < length xs → left xs from ≡ lineOf (recordOf 0 from (take 16 (drop from xs))) ++ left xs (from + 16)
+pub left-first : (xs : List ℕ) (from : ℕ) → from < length xs → left xs from ≡ recordLine (recordOf 0 from (take 16 (drop from xs))) ++ left xs (from + 16)
 unfolding left dataLines
 left-first xs from h =
     let d : length (drop from xs) ≡ length xs - from = length-drop from xs in
     let e : length (drop (from + 16) xs) ≡ length xs - (from + 16) = length-drop (from + 16) xs in
     let k : recordsOf (length (drop from xs)) ≡ suc (recordsOf (length (drop (from + 16) xs))) = omega arith in
     ap (λ (m : ℕ). dataLines m from (drop from xs)) k
-    ∙ ap (λ (l : List ℕ). lineOf (recordOf 0 from (take 16 (drop from xs))) ++ dataLines (recordsOf (length (drop (from + 16) xs))) (from + 16) l) (drop-drop 16 from xs)
+    ∙ ap (λ (l : List ℕ). recordLine (recordOf 0 from (take 16 (drop from xs))) ++ dataLines (recordsOf (length (drop (from + 16) xs))) (from + 16) l) (drop-drop 16 from xs)
 
 -- the part of an image that a record takes
 pub part-is : (xs : List ℕ) (from end : ℕ) → from < length xs → end ≡ leastOf (from + 16) (length xs) → take (end - from) (drop from xs) ≡ take 16 (drop from xs)
@@ -105,10 +105,10 @@ part-starts xs from end h e =
 -- one record written into out at place `to`
 module _ (xs out : List ℕ) (from to end : ℕ) (more : from < length xs) (ends : end ≡ leastOf (from + 16) (length xs)) (room : to + length (left xs from) ≤ length out) where
   abbrev line : List ℕ
-  line = lineOf (recordOf 0 from (take (end - from) (drop from xs)))
+  line = recordLine (recordOf 0 from (take (end - from) (drop from xs)))
 
-  line-is : line ≡ lineOf (recordOf 0 from (take 16 (drop from xs)))
-  line-is = ap (λ (l : List ℕ). lineOf (recordOf 0 from l)) (part-is xs from end more ends)
+  line-is : line ≡ recordLine (recordOf 0 from (take 16 (drop from xs)))
+  line-is = ap (λ (l : List ℕ). recordLine (recordOf 0 from l)) (part-is xs from end more ends)
 
   parts : left xs from ≡ line ++ left xs (from + 16)
   parts = left-first xs from more ∙ ap (λ (l : List ℕ). l ++ left xs (from + 16)) (sym line-is)
@@ -136,7 +136,7 @@ data-laid xs out out₀ from to at over room laid total =
     (ap (sets out to) (sym e) ∙ laid ∙ sets-put (dataText xs) out₀ at room, omega arith)
 
 -- the three parts of a text in out, one behind the other
-module _ (xs out : List ℕ) (room : length (textOf xs) ≤ length out) where
+module _ (xs out : List ℕ) (room : length (hexText xs) ≤ length out) where
   total : 28 + length (dataText xs) ≤ length out
   total = let t = text-length xs in let d = data-text-length xs in omega arith
 
@@ -157,7 +157,7 @@ module _ (xs out : List ℕ) (room : length (textOf xs) ≤ length out) where
       pub end-room : b + length endLine ≤ length o₂
       end-room = let t = total in let u = upper-length in let e = end-length in let k = second-kept in omega arith
 
-      pub text-laid : (o₃ : List ℕ) → o₃ ≡ put b endLine o₂ → o₃ ≡ put 0 (textOf xs) out
+      pub text-laid : (o₃ : List ℕ) → o₃ ≡ put b endLine o₂ → o₃ ≡ put 0 (hexText xs) out
       text-laid o₃ three =
           let u = upper-length in
           let e = end-length in

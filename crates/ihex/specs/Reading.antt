@@ -11,21 +11,21 @@ use Rattle.refusal.specs.declared.Admission.{Admission}
 use Rattle.refusal.specs.declared.Admission.the-variants.{Admitted, Refused}
 use Rattle.refusal.specs.Order.{firstOf}
 use Rattle.refusal.specs.Delivery.{Delivery, delivered}
-use Rattle.record.specs.Record.{recordIn, offsetOf, typeOf, dataOf, wellFormed}
+use Rattle.record.specs.Record.{recordIn, offsetOf, offsetCount, typeOf, dataOf, goodRecord}
 use Rattle.pieces.specs.Image.{Piece, imageOf}
 use Rattle.pieces.specs.Refusals.{none, withPiece, pieceRefusals}
 
 -- the address of a record's first byte: the upper half that holds for it, and its offset; its bytes go on from there, past 64 KiB too
-unfoldable pub addressOf : ℕ → List ℕ → ℕ
-addressOf upper r = upper * 0x10000 + offsetOf r
+unfoldable pub dataAddress : ℕ → List ℕ → ℕ
+dataAddress upper r = upper * offsetCount + offsetOf r
 
 -- type 04: the upper half of the addresses from here on; it is 0 before the first
 unfoldable pub upperAfter : ℕ → List ℕ → ℕ
 upperAfter upper r = cond (eqb (typeOf r) 4) (getD r 4 0 * 256 + getD r 5 0) upper
 
 -- type 00: what is given with a record, the latest first
-unfoldable pub piecesAfter : ℕ → List Piece → List ℕ → List Piece
-piecesAfter upper ps r = cond (eqb (typeOf r) 0) (withPiece (addressOf upper r) (dataOf r) ps) ps
+unfoldable pub givenAfter : ℕ → List Piece → List ℕ → List Piece
+givenAfter upper ps r = cond (eqb (typeOf r) 0) (withPiece (dataAddress upper r) (dataOf r) ps) ps
 
 -- type 01 ends the text
 unfoldable pub ends : List ℕ → Bool
@@ -33,41 +33,41 @@ ends r = eqb (typeOf r) 1
 
 -- of a record, on a board of n pages: only data have an address
 unfoldable pub recordRefusals : ℕ → ℕ → List Piece → List ℕ → List (Refusal × Bool)
-recordRefusals n upper ps r = cond (eqb (typeOf r) 0) (pieceRefusals n (addressOf upper r) (dataOf r) ps) []
+recordRefusals n upper ps r = cond (eqb (typeOf r) 0) (pieceRefusals n (dataAddress upper r) (dataOf r) ps) []
 
 -- "in a line its own faults come before its address, both before 22": of line number k
 unfoldable pub lineRefusals : ℕ → ℕ → ℕ → List Piece → List ℕ → List (Refusal × Bool)
-lineRefusals n k upper ps l = (Record k, not (wellFormed l)) ∷ recordRefusals n upper ps (recordIn l)
+lineRefusals n k upper ps l = (Record k, not (goodRecord l)) ∷ recordRefusals n upper ps (recordIn l)
 
 -- "any text after it, 23, then no data 24": at the end record, with these lines behind it
 abbrev pub endRefusals : List Piece → List (List ℕ) → List (Refusal × Bool)
 endRefusals ps ls = (Unended, not (none ls)) ∷ (Empty, none ps) ∷ []
 
--- "the first faulty line decides": line for line, from number k on; "no end record 23"
+-- "the first faulty line decides": line for line, from number k on; "no end record, .. 23"
 unfoldable pub refusalsFrom : ℕ → ℕ → ℕ → List Piece → List (List ℕ) → List (Refusal × Bool)
 refusalsFrom n k upper ps [] = (Unended, true) ∷ []
 refusalsFrom n k upper ps (l ∷ ls) =
     let r = recordIn l in
-    lineRefusals n k upper ps l ++ cond (ends r) (endRefusals ps ls) (refusalsFrom n (suc k) (upperAfter upper r) (piecesAfter upper ps r) ls)
+    lineRefusals n k upper ps l ++ cond (ends r) (endRefusals ps ls) (refusalsFrom n (suc k) (upperAfter upper r) (givenAfter upper ps r) ls)
 
 -- all that these lines give, up to the end record
 unfoldable pub piecesFrom : ℕ → List Piece → List (List ℕ) → List Piece
 piecesFrom upper ps [] = ps
 piecesFrom upper ps (l ∷ ls) =
     let r = recordIn l in
-    cond (ends r) ps (piecesFrom (upperAfter upper r) (piecesAfter upper ps r) ls)
+    cond (ends r) ps (piecesFrom (upperAfter upper r) (givenAfter upper ps r) ls)
 
 -- the refusals of a text, in their order
-abbrev pub readRefusals : ℕ → List ℕ → List (Refusal × Bool)
-readRefusals n t = refusalsFrom n 1 0 [] (linesOf t)
+abbrev pub hexReadRefusals : ℕ → List ℕ → List (Refusal × Bool)
+hexReadRefusals n t = refusalsFrom n 1 0 [] (linesOf t)
 
 -- the bytes that it gives
 abbrev pub piecesIn : List ℕ → List Piece
 piecesIn t = piecesFrom 0 [] (linesOf t)
 
 -- the reader: 20 to 24, 11
-unfoldable pub readOf : ℕ → List ℕ → List ℕ → Delivery
-readOf n t out = delivered (readRefusals n t) (imageOf (piecesIn t)) out
+unfoldable pub hexRead : ℕ → List ℕ → List ℕ → Delivery
+hexRead n t out = delivered (hexReadRefusals n t) (imageOf (piecesIn t)) out
 
 -- does one of these apply?
 abbrev pub applies : Admission → Bool
@@ -83,7 +83,7 @@ unfoldable pub faultyFrom : ℕ → ℕ → ℕ → List Piece → List (List �
 faultyFrom n k upper ps [] = k
 faultyFrom n k upper ps (l ∷ ls) =
     let r = recordIn l in
-    cond (applies (firstOf (lineRefusals n k upper ps l))) k (cond (ends r) (faultyEnd k ps ls) (faultyFrom n (suc k) (upperAfter upper r) (piecesAfter upper ps r) ls))
+    cond (applies (firstOf (lineRefusals n k upper ps l))) k (cond (ends r) (faultyEnd k ps ls) (faultyFrom n (suc k) (upperAfter upper r) (givenAfter upper ps r) ls))
 
 -- of a whole text
 abbrev pub faultyLine : ℕ → List ℕ → ℕ

@@ -14,18 +14,19 @@ use Rattle.refusal.specs.Order.{firstOf}
 use Rattle.refusal.specs.Delivery.{counted}
 use Rattle.board.specs.Layout.{flashFirst}
 use Rattle.ihex.specs.declared.Walked.{Walked}
+use Rattle.record.specs.Record.{offsetCount}
 use Rattle.pieces.specs.Image.{Piece, imageOf}
 use Rattle.pieces.specs.Ways.{Holds}
 use Rattle.ihex.specs.Writing.{recordsOf, dataLines}
-use Rattle.ihex.specs.Reading.{piecesAfter, recordRefusals, readRefusals, piecesIn, faultyLine}
+use Rattle.ihex.specs.Reading.{givenAfter, recordRefusals, hexReadRefusals, piecesIn, faultyLine}
 
 -- what laying a record comes to: a refusal, or all holds with its data, up to a new end
-abbrev pub Laid : ℕ → ℕ → List Piece → List ℕ → List ℕ → List ℕ → Done → Type 0
-Laid n upper ps r bits image (Refused why) = firstOf (recordRefusals n upper ps r) ≡ admission.Refused why
-Laid n upper ps r bits image (Bytes end) = (firstOf (recordRefusals n upper ps r) ≡ admission.Admitted) × Holds n (piecesAfter upper ps r) bits image end
+abbrev pub RecordPlaced : ℕ → ℕ → List Piece → List ℕ → List ℕ → List ℕ → Done → Type 0
+RecordPlaced n upper ps r bits image (Refused why) = firstOf (recordRefusals n upper ps r) ≡ admission.Refused why
+RecordPlaced n upper ps r bits image (Bytes end) = (firstOf (recordRefusals n upper ps r) ≡ admission.Admitted) × Holds n (givenAfter upper ps r) bits image end
 
-abbrev pub Lays : ℕ → ℕ → List ℕ → ℕ → List ℕ → List ℕ → List ℕ → List ℕ → Done → Type 0
-Lays n upper r end bits image bits′ image′ done = (ps : List Piece) → Holds n ps bits image end → Laid n upper ps r bits′ image′ done
+abbrev pub RecordPlaces : ℕ → ℕ → List ℕ → ℕ → List ℕ → List ℕ → List ℕ → List ℕ → Done → Type 0
+RecordPlaces n upper r end bits image bits′ image′ done = (ps : List Piece) → Holds n ps bits image end → RecordPlaced n upper ps r bits′ image′ done
 
 -- the end of a walk at a fault
 abbrev pub stoppedOf : Refusal → ℕ → Walked
@@ -38,14 +39,10 @@ endedOf left end k =
 
 -- a walk over a text: what it comes to, the line at fault, and the image in front of its buffer
 pub record Walks (n : ℕ) (t : List ℕ) (r : Walked) (image : List ℕ) : Type 0 where
-  pub answer : r .done ≡ counted (firstOf (readRefusals n t)) (length (imageOf (piecesIn t)))
+  pub answer : r .done ≡ counted (firstOf (hexReadRefusals n t)) (length (imageOf (piecesIn t)))
   pub line : r .line ≡ faultyLine n t
-  pub front : firstOf (readRefusals n t) ≡ admission.Admitted → take (length (imageOf (piecesIn t))) image ≡ imageOf (piecesIn t)
-
--- the longest image whose records have offsets above one upper half
-abbrev pub mostBytes : ℕ
-mostBytes = 0x10000
+  pub front : firstOf (hexReadRefusals n t) ≡ admission.Admitted → take (length (imageOf (piecesIn t))) image ≡ imageOf (piecesIn t)
 
 -- the lines of an image's data
 unfoldable pub dataText : List ℕ → List ℕ
-dataText xs = dataLines (recordsOf (length xs)) (flashFirst % 0x10000) xs
+dataText xs = dataLines (recordsOf (length xs)) (flashFirst % offsetCount) xs

@@ -8,7 +8,7 @@ use Rattle.refusal.specs.declared.Refusal.the-variants.{Image}
 use Rattle.refusal.specs.Delivery.{Delivery, delivered}
 use Rattle.board.specs.Layout.{flashFirst}
 use Rattle.board.specs.Supply.{unfit}
-use Rattle.record.specs.Record.{recordOf, lineOf}
+use Rattle.record.specs.Record.{offsetCount, recordOf, recordLine}
 
 -- "data records of 16 bytes"
 abbrev pub recordBytes : ℕ
@@ -20,25 +20,25 @@ recordsOf count = (count + (recordBytes - 1)) / recordBytes
 
 -- "a 04 record": the upper half of the first flash address
 abbrev pub upperLine : List ℕ
-upperLine = lineOf (recordOf 4 0 (flashFirst / 0x1000000 ∷ flashFirst / 0x10000 % 256 ∷ []))
+upperLine = recordLine (recordOf 4 0 (flashFirst / offsetCount / 256 ∷ flashFirst / offsetCount % 256 ∷ []))
 
 -- so many data records, from an offset on
 unfoldable pub dataLines : ℕ → ℕ → List ℕ → List ℕ
 dataLines zero offset xs = []
-dataLines (suc k) offset xs = lineOf (recordOf 0 offset (take recordBytes xs)) ++ dataLines k (offset + recordBytes) (drop recordBytes xs)
+dataLines (suc k) offset xs = recordLine (recordOf 0 offset (take recordBytes xs)) ++ dataLines k (offset + recordBytes) (drop recordBytes xs)
 
 -- "the end record"
 abbrev pub endLine : List ℕ
-endLine = lineOf (recordOf 1 0 [])
+endLine = recordLine (recordOf 1 0 [])
 
 -- the text of an image
-unfoldable pub textOf : List ℕ → List ℕ
-textOf xs = upperLine ++ (dataLines (recordsOf (length xs)) (flashFirst % 0x10000) xs ++ endLine)
+unfoldable pub hexText : List ℕ → List ℕ
+hexText xs = upperLine ++ (dataLines (recordsOf (length xs)) (flashFirst % offsetCount) xs ++ endLine)
 
 -- "the writer gives 7"
-abbrev pub writeRefusals : ℕ → List ℕ → List (Refusal × Bool)
-writeRefusals n xs = (Image, unfit n (length xs)) ∷ []
+abbrev pub hexWriteRefusals : ℕ → List ℕ → List (Refusal × Bool)
+hexWriteRefusals n xs = (Image, unfit n (length xs)) ∷ []
 
 -- the writer: 7, 11
-unfoldable pub writeOf : ℕ → List ℕ → List ℕ → Delivery
-writeOf n xs out = delivered (writeRefusals n xs) (textOf xs) out
+unfoldable pub hexWritten : ℕ → List ℕ → List ℕ → Delivery
+hexWritten n xs out = delivered (hexWriteRefusals n xs) (hexText xs) out

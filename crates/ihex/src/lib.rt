@@ -10,16 +10,16 @@ ghost use lib.ListN.{length};
 ghost use Rattle.laws.specs.Bytes.{put};
 ghost use Rattle.board.specs.Layout.{loggerPages, flashBytes};
 ghost use Rattle.refusal.specs.Delivery.{delivery};
-ghost use Rattle.record.specs.Record.{lengthOf, sound};
+ghost use Rattle.record.specs.Record.{lengthOf, sound, offsetCount};
 ghost use Rattle.pieces.specs.Ways.{Holds};
-ghost use Rattle.ihex.specs.Reading.{addressOf, upperAfter, readOf, faultyLine};
-ghost use Rattle.ihex.specs.Writing.{textOf, writeOf};
-ghost use Rattle.ihex.specs.Ways.{Lays, stoppedOf, endedOf, Walks, mostBytes, dataText};
+ghost use Rattle.ihex.specs.Reading.{dataAddress, upperAfter, hexRead, faultyLine};
+ghost use Rattle.ihex.specs.Writing.{hexText, hexWritten};
+ghost use Rattle.ihex.specs.Ways.{RecordPlaces, stoppedOf, endedOf, Walks, dataText};
 
 // The bytes of the logger's flash, and a bit for each of them.
-const FLASH: usize = Board::LOGGER.pages as usize * Board::PAGE;
+const FLASH_BYTES: usize = Board::LOGGER.pages as usize * Board::PAGE;
 
-const MARKS: usize = FLASH / 8;
+const MARKS: usize = FLASH_BYTES / 8;
 
 // What an image has where nothing is given.
 const GAP: u8 = 0xFF;
@@ -28,7 +28,12 @@ const GAP: u8 = 0xFF;
 const RECORD: usize = 16;
 
 // The line of the upper half, which has two bytes of data, and that of the end.
-const OUTER: usize = record::LINE * 2 + 4;
+const OUTER: usize = record::LINE * 2 + record::UPPER_BYTES as usize * 2;
+
+// The longest text of an image that is written.
+pub const LONGEST: usize = OUTER
+    + (FLASH_BYTES + (RECORD - 1)) / RECORD * record::LINE
+    + FLASH_BYTES * 2;
 
 // The end of a walk over a text: how long its image is, or why it has none; and the line at fault, or 0.
 pub struct Walked {
@@ -39,7 +44,7 @@ pub struct Walked {
 // The address of a record's first byte.
 fn address(upper: u32, record: &[u8]) -> u64
     requires { ⌜ 5 ≤ length (now «record») ⌝ }
-    ensures { λ r. ⌜ r ≡ addressOf upper (now («record» .entry)) ⌝ }
+    ensures { λ r. ⌜ r ≡ dataAddress upper (now («record» .entry)) ⌝ }
 {
     upper as u64 * 0x1_0000 + record::word(record[1], record[2]) as u64
 }
@@ -55,7 +60,7 @@ fn upper_after(upper: u32, record: &[u8]) -> u32
     upper
 }
 
-// Lays the data of a record, and gives where the image ends then; or refuses, and lays none.
+// RecordPlaces the data of a record, and gives where the image ends then; or refuses, and lays none.
 fn lay(
     board: Board,
     upper: u32,
@@ -65,7 +70,7 @@ fn lay(
     image: &mut [u8],
 ) -> Done
     requires { ⌜ (length (now «record») ≡ 5 + lengthOf (now «record»)) × (flashBytes (board .pages) ≤ length (now given) * 8) × (length (now image) ≡ flashBytes (board .pages)) ⌝ }
-    ensures { λ r. ⌜ Lays (board .pages) upper (now («record» .entry)) end (now (given .entry)) (now (image .entry)) (now (given .exit)) (now (image .exit)) r ⌝ }
+    ensures { λ r. ⌜ RecordPlaces (board .pages) upper (now («record» .entry)) end (now (given .entry)) (now (image .entry)) (now (given .exit)) (now (image .exit)) r ⌝ }
 {
     if record[3] != record::DATA {
         return Done::Bytes(end);
@@ -137,11 +142,11 @@ fn walk(board: Board, text: &[u8], record: &mut [u8], given: &mut [u8], image: &
 
 // Reads a HEX text: its image goes to the front of `out`.
 pub fn read(text: &[u8], out: &mut [u8]) -> Done
-    ensures { λ r. ⌜ delivery r (now (out .exit)) ≡ readOf loggerPages (now (text .entry)) (now (out .entry)) ⌝ }
+    ensures { λ r. ⌜ delivery r (now (out .exit)) ≡ hexRead loggerPages (now (text .entry)) (now (out .entry)) ⌝ }
 {
     let mut record = [0u8; record::ROOM];
     let mut given = [0u8; MARKS];
-    let mut image = [GAP; FLASH];
+    let mut image = [GAP; FLASH_BYTES];
     let walked = walk(Board::LOGGER, text, &mut record, &mut given, &mut image);
     let done = walked.done;
     match done {
@@ -163,21 +168,21 @@ pub fn faulty_line(text: &[u8]) -> usize
 {
     let mut record = [0u8; record::ROOM];
     let mut given = [0u8; MARKS];
-    let mut image = [GAP; FLASH];
+    let mut image = [GAP; FLASH_BYTES];
     walk(Board::LOGGER, text, &mut record, &mut given, &mut image).line
 }
 
 // How long the text of an image is: the two lines around the data, and for each record of them its frame.
 fn text_size(image: &[u8]) -> usize
-    requires { ⌜ length (now image) ≤ mostBytes ⌝ }
-    ensures { λ r. ⌜ r ≡ length (textOf (now (image .entry))) ⌝ }
+    requires { ⌜ length (now image) ≤ offsetCount ⌝ }
+    ensures { λ r. ⌜ r ≡ length (hexText (now (image .entry))) ⌝ }
 {
     OUTER + (image.len() + (RECORD - 1)) / RECORD * record::LINE + image.len() * 2
 }
 
 // Writes the data records of an image into `out` from place `at` on, and gives the place behind them.
 fn write_data(image: &[u8], out: &mut [u8], at: usize) -> usize
-    requires { ⌜ (length (now image) ≤ mostBytes) × (at + length (dataText (now image)) ≤ length (now out)) ⌝ }
+    requires { ⌜ (length (now image) ≤ offsetCount) × (at + length (dataText (now image)) ≤ length (now out)) ⌝ }
     ensures { λ r. ⌜ (now (out .exit) ≡ put at (dataText (now (image .entry))) (now (out .entry))) × (r ≡ at + length (dataText (now (image .entry)))) ⌝ }
 {
     let mut from = 0;
@@ -192,8 +197,8 @@ fn write_data(image: &[u8], out: &mut [u8], at: usize) -> usize
 
 // Writes the text of an image to the front of `out`.
 fn spell(image: &[u8], out: &mut [u8])
-    requires { ⌜ (length (now image) ≤ mostBytes) × (length (textOf (now image)) ≤ length (now out)) ⌝ }
-    ensures { λ _. ⌜ now (out .exit) ≡ put 0 (textOf (now (image .entry))) (now (out .entry)) ⌝ }
+    requires { ⌜ (length (now image) ≤ offsetCount) × (length (hexText (now image)) ≤ length (now out)) ⌝ }
+    ensures { λ _. ⌜ now (out .exit) ≡ put 0 (hexText (now (image .entry))) (now (out .entry)) ⌝ }
 {
     let upper = [
         (Board::FLASH / 0x100_0000) as u8,
@@ -206,8 +211,8 @@ fn spell(image: &[u8], out: &mut [u8])
 
 // Writes an image as HEX for a board.
 fn write_for(board: Board, image: &[u8], out: &mut [u8]) -> Done
-    requires { ⌜ flashBytes (board .pages) ≤ mostBytes ⌝ }
-    ensures { λ r. ⌜ delivery r (now (out .exit)) ≡ writeOf (board .pages) (now (image .entry)) (now (out .entry)) ⌝ }
+    requires { ⌜ flashBytes (board .pages) ≤ offsetCount ⌝ }
+    ensures { λ r. ⌜ delivery r (now (out .exit)) ≡ hexWritten (board .pages) (now (image .entry)) (now (out .entry)) ⌝ }
 {
     if board.unfit(image.len()) {
         return Done::Refused(Refusal::Image);
@@ -222,7 +227,7 @@ fn write_for(board: Board, image: &[u8], out: &mut [u8]) -> Done
 
 // Writes an image as HEX to the front of `out`.
 pub fn write(image: &[u8], out: &mut [u8]) -> Done
-    ensures { λ r. ⌜ delivery r (now (out .exit)) ≡ writeOf loggerPages (now (image .entry)) (now (out .entry)) ⌝ }
+    ensures { λ r. ⌜ delivery r (now (out .exit)) ≡ hexWritten loggerPages (now (image .entry)) (now (out .entry)) ⌝ }
 {
     write_for(Board::LOGGER, image, out)
 }

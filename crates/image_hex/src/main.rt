@@ -10,9 +10,6 @@ use verdict::Verdict;
 // One byte more than an image may have, so that a longer file shows as such.
 const IMAGE_ROOM: usize = Board::LOGGER.pages as usize * Board::PAGE + 1;
 
-// The longest text of an image: the record of the address, 1,024 records of 16 bytes and the end record.
-const TEXT_ROOM: usize = 16 + 1024 * 44 + 12;
-
 // Room for a sentence.
 const ROOM: usize = 512;
 
@@ -29,7 +26,7 @@ fn refuse(why: Refusal, template: &[u8], number: usize) {
 
 // Writes the text of an image.
 fn perform(image: &[u8]) {
-    let mut text = [0u8; TEXT_ROOM];
+    let mut text = [0u8; ihex::LONGEST];
     let done = ihex::write(image, &mut text);
     match done {
         Done::Bytes(size) => files::write(STDOUT_FILENO, &text, size),

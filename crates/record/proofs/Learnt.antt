@@ -15,8 +15,8 @@ use Rattle.laws.proofs.Lines.{first-some}
 use Rattle.hex.specs.Hex.{byteOf, capitalOf, capitals, bytesOf}
 use Rattle.hex.proofs.Either.{capitals-at, capitals-length}
 use Rattle.hex.proofs.Fields.{byte-of}
-use Rattle.record.specs.Record.{lengthIn, spelled, recordIn, lengthOf, typeOf, sound, wellFormed}
-use Rattle.record.specs.Ways.{lineLength, recordLaid}
+use Rattle.record.specs.Record.{lengthIn, spelled, recordIn, lengthOf, typeOf, sound, goodRecord}
+use Rattle.record.specs.Ways.{recordLineLength, recordLaid}
 use Rattle.record.proofs.Spelling.{Spells, spells, spells-record, spells-length, spells-length-here, ends-some}
 use Rattle.record.proofs.Reading.{record-length, length-small}
 
@@ -34,7 +34,7 @@ length-field {u} q =
 
 -- the first line of u is no bad record, and its record is in front of `after`
 pub record Reads (u out after : List ℕ) : Type 0 where
-  pub formed : wellFormed (firstLine u) ≡ true
+  pub formed : goodRecord (firstLine u) ≡ true
   pub good : sound (recordIn (firstLine u)) ≡ true
   pub whole : length (recordIn (firstLine u)) ≡ 5 + lengthOf (recordIn (firstLine u))
   pub short : lengthOf (recordIn (firstLine u)) < 256
@@ -44,12 +44,12 @@ pub record Reads (u out after : List ℕ) : Type 0 where
   pub front : (n : ℕ) → n ≡ 5 + lengthOf (recordIn (firstLine u)) → take (n - 0) (drop 0 after) ≡ recordIn (firstLine u)
   pub kept : length after ≡ length out
 
-formed-if : (u : List ℕ) → (lineLength u ≡ 0 → ⊥) → wellFormed (firstLine u) ≡ true
-unfolding lineLength
-formed-if u z = by-bool (wellFormed (firstLine u)) (λ h. h) (λ h. absurd (z (rw h)))
+formed-if : (u : List ℕ) → (recordLineLength u ≡ 0 → ⊥) → goodRecord (firstLine u) ≡ true
+unfolding recordLineLength
+formed-if u z = by-bool (goodRecord (firstLine u)) (λ h. h) (λ h. absurd (z (rw h)))
 
-pub reads : (u out after : List ℕ) (n : ℕ) → n ≡ lineLength u → (n ≡ 0 → ⊥) → after ≡ recordLaid u out → 260 ≤ length out → Reads u out after × (n ≡ length (firstLine u))
-unfolding lineLength wellFormed recordLaid lengthOf typeOf
+pub reads : (u out after : List ℕ) (n : ℕ) → n ≡ recordLineLength u → (n ≡ 0 → ⊥) → after ≡ recordLaid u out → 260 ≤ length out → Reads u out after × (n ≡ length (firstLine u))
+unfolding recordLineLength goodRecord recordLaid lengthOf typeOf
 reads u out after n e z laid room =
     let f : (spelled (firstLine u) && sound (recordIn (firstLine u))) ≡ true = formed-if u (λ x. z (e ∙ x)) in
     let p = and-true (spelled (firstLine u)) (sound (recordIn (firstLine u))) f in
@@ -80,9 +80,9 @@ reads u out after n e z laid room =
     )
 
 -- a length of 0 is that of a bad record
-pub bad-record : (u : List ℕ) → 0 < length u → lineLength u ≡ 0 → wellFormed (firstLine u) ≡ false
-unfolding lineLength
+pub bad-record : (u : List ℕ) → 0 < length u → recordLineLength u ≡ 0 → goodRecord (firstLine u) ≡ false
+unfolding recordLineLength
 bad-record u some z =
-    by-bool (wellFormed (firstLine u))
+    by-bool (goodRecord (firstLine u))
     (λ h. let s = first-some u some in let l : length (firstLine u) ≡ 0 = rw h at z in absurd (omega arith))
     (λ h. h)

@@ -14,8 +14,8 @@ use Rattle.hex.specs.Hex.{valueOf, allDigits, capitalOf, capitals, bytesOf}
 use Rattle.hex.proofs.OneDigit.{byte-small}
 use Rattle.hex.proofs.Either.{capitals-length}
 use Rattle.hex.proofs.Fields.{bytes-length}
-use Rattle.record.specs.Record.{lengthIn, spelled, recordIn, sound, wellFormed}
-use Rattle.record.specs.Ways.{spelledLength, lineLength, recordLaid}
+use Rattle.record.specs.Record.{lengthIn, spelled, recordIn, sound, goodRecord}
+use Rattle.record.specs.Ways.{spelledLength, recordLineLength, recordLaid}
 use Rattle.record.proofs.Spelling.{Spells, spells, spells-size, spells-length, spells-spelled, spells-record, spells-field, length-good, length-digits, length-fit, ends-some}
 
 -- a length tells whether the first line spells a record
@@ -30,8 +30,8 @@ unspelled-by u z =
     (λ h. h)
 
 -- where it spells none, nothing is read
-pub read-none : (u out : List ℕ) (n : ℕ) → n ≡ spelledLength u → n ≡ 0 → (0 ≡ lineLength u) × (out ≡ recordLaid u out)
-unfolding lineLength wellFormed recordLaid
+pub read-none : (u out : List ℕ) (n : ℕ) → n ≡ spelledLength u → n ≡ 0 → (0 ≡ recordLineLength u) × (out ≡ recordLaid u out)
+unfolding recordLineLength goodRecord recordLaid
 read-none u out n e z =
     let s = unspelled-by u (sym e ∙ z) in
     (rw s, rw s)
@@ -93,10 +93,10 @@ module _ {u : List ℕ} (q : Spells u) where
           let e : n - 0 ≡ length (recordIn (firstLine u)) = let l = record-length in omega arith in
           ap (λ (k : ℕ). take k after) e ∙ ap (take (length (recordIn (firstLine u)))) as-record ∙ take-put (recordIn (firstLine u)) out
 
-  pub read-good : (m : ℕ) → m ≡ spelledLength u → sound (recordIn (firstLine u)) ≡ true → m ≡ lineLength u
-  unfolding lineLength wellFormed
+  pub read-good : (m : ℕ) → m ≡ spelledLength u → sound (recordIn (firstLine u)) ≡ true → m ≡ recordLineLength u
+  unfolding recordLineLength goodRecord
   read-good m e s = e ∙ length-good u (spells-spelled q) ∙ rw (spells-spelled q, s)
 
-  pub read-bad : sound (recordIn (firstLine u)) ≡ false → 0 ≡ lineLength u
-  unfolding lineLength wellFormed
+  pub read-bad : sound (recordIn (firstLine u)) ≡ false → 0 ≡ recordLineLength u
+  unfolding recordLineLength goodRecord
   read-bad s = rw (spells-spelled q, s)

@@ -11,10 +11,10 @@ use Rattle.laws.proofs.Bytes.{sets-put, put-length}
 use Rattle.laws.proofs.Append.{sets-append, take-put, put-behind}
 use Rattle.hex.specs.Hex.{hexOf}
 use Rattle.hex.proofs.Fields.{hex-length}
-use Rattle.record.specs.Record.{sumOf, summed, recordOf, lineOf}
+use Rattle.record.specs.Record.{sumOf, summed, recordOf, recordLine}
 
-pub line-length-of : (r : List ℕ) → length (lineOf r) ≡ 2 + length r * 2
-unfolding lineOf
+pub line-length-of : (r : List ℕ) → length (recordLine r) ≡ 2 + length r * 2
+unfolding recordLine
 line-length-of r =
     let h = hex-length r in
     simp length-append (omega arith)
@@ -24,8 +24,8 @@ unfolding recordOf summed
 record-length-of type offset xs = simp length-append (omega arith)
 
 -- the mark, the digits and the end, one after the other
-pub line-spelled : (r out o₁ : List ℕ) (at end : ℕ) → at + (2 + length r * 2) ≤ length out → end ≡ at + 1 + length r * 2 → o₁ ≡ put (at + 1) (hexOf r) (set out at 58) → set o₁ end 10 ≡ put at (lineOf r) out
-unfolding lineOf
+pub line-spelled : (r out o₁ : List ℕ) (at end : ℕ) → at + (2 + length r * 2) ≤ length out → end ≡ at + 1 + length r * 2 → o₁ ≡ put (at + 1) (hexOf r) (set out at 58) → set o₁ end 10 ≡ put at (recordLine r) out
+unfolding recordLine
 line-spelled r out o₁ at end room is one =
     let h = hex-length r in
     let l = length-set out at 58 in
@@ -77,14 +77,14 @@ module _ (head xs z o₁ o₂ : List ℕ) (four : length head ≡ 4) (room : 5 +
     unfolding recordOf
     made = record-made n s c is e f ∙ ap (λ (h : List ℕ). summed (h ++ xs)) heads
 
-    pub write-room : (at : ℕ) (out : List ℕ) → at + length (lineOf (recordOf type offset xs)) ≤ length out → at + (2 + length (take (n + 1 - 0) (drop 0 (set o₂ n c))) * 2) ≤ length out
+    pub write-room : (at : ℕ) (out : List ℕ) → at + length (recordLine (recordOf type offset xs)) ≤ length out → at + (2 + length (take (n + 1 - 0) (drop 0 (set o₂ n c))) * 2) ≤ length out
     write-room at out h =
         let l = ap length made in
         let k = line-length-of (recordOf type offset xs) in
         omega arith
 
-    pub written : (at : ℕ) (out after : List ℕ) → after ≡ put at (lineOf (take (n + 1 - 0) (drop 0 (set o₂ n c)))) out → (after ≡ put at (lineOf (recordOf type offset xs)) out) × (n * 2 + 4 ≡ length (lineOf (recordOf type offset xs)))
+    pub written : (at : ℕ) (out after : List ℕ) → after ≡ put at (recordLine (take (n + 1 - 0) (drop 0 (set o₂ n c)))) out → (after ≡ put at (recordLine (recordOf type offset xs)) out) × (n * 2 + 4 ≡ length (recordLine (recordOf type offset xs)))
     written at out after w =
         let k = line-length-of (recordOf type offset xs) in
         let l = record-length-of type offset xs in
-        (w ∙ ap (λ (r : List ℕ). put at (lineOf r) out) made, omega arith)
+        (w ∙ ap (λ (r : List ℕ). put at (recordLine r) out) made, omega arith)

@@ -17,7 +17,7 @@ use Rattle.hex.specs.Hex.{byteOf, allDigits, capitalOf, capitals, bytesOf, hexO
 use Rattle.hex.proofs.OneDigit.{capital-digit}
 use Rattle.hex.proofs.Either.{capitals-digits}
 use Rattle.hex.proofs.Fields.{hex-length, bytes-hex, digits-hex, byte-of, digit-at}
-use Rattle.record.specs.Record.{lengthIn, spelled, recordIn, lengthOf, offsetOf, typeOf, dataOf, sumOf, suits, sound, wellFormed, summed, recordOf, lineOf}
+use Rattle.record.specs.Record.{lengthIn, spelled, recordIn, lengthOf, offsetOf, typeOf, dataOf, sumOf, suits, sound, goodRecord, summed, recordOf, recordLine}
 use Rattle.record.proofs.Spelling.{Spells, length-in, spells-first, spells-record, spells-spelled}
 use Rattle.record.proofs.Writing.{record-length-of}
 
@@ -26,11 +26,11 @@ module _ (r : List ℕ) (bytes : allBytes r ≡ true) (whole : length r ≡ 5 + 
   capital-field : capitals (hexOf r) ≡ hexOf r
   capital-field = capitals-digits (hexOf r) (digits-hex r)
 
-  front : (s : List ℕ) → lineOf r ++ s ≡ 58 ∷ (hexOf r ++ ((10 ∷ []) ++ s))
-  unfolding lineOf
+  front : (s : List ℕ) → recordLine r ++ s ≡ 58 ∷ (hexOf r ++ ((10 ∷ []) ++ s))
+  unfolding recordLine
   front s = ap (λ (l : List ℕ). 58 ∷ l) (append-assoc (hexOf r) (10 ∷ []) s)
 
-  length-there : (s : List ℕ) → lengthIn (lineOf r ++ s) ≡ lengthOf r
+  length-there : (s : List ℕ) → lengthIn (recordLine r ++ s) ≡ lengthOf r
   unfolding lengthOf
   length-there s =
       let l = hex-length r in
@@ -43,36 +43,36 @@ module _ (r : List ℕ) (bytes : allBytes r ≡ true) (whole : length r ≡ 5 + 
       ∙ byte-of (hexOf r) 0 half
       ∙ ap (λ (l : List ℕ). getD l 0 0) (bytes-hex r bytes)
 
-  spells-written : (s : List ℕ) → Spells (lineOf r ++ s)
+  spells-written : (s : List ℕ) → Spells (recordLine r ++ s)
   spells-written s =
       let l = hex-length r in
       let e = length-there s in
-      let t : length (hexOf r) ≡ (5 + lengthIn (lineOf r ++ s)) * 2 = omega arith in
+      let t : length (hexOf r) ≡ (5 + lengthIn (recordLine r ++ s)) * 2 = omega arith in
       record { ds = hexOf r; e = 10 ∷ []; r = s; digits = ap allDigits capital-field ∙ digits-hex r; twice = t; ends = inl refl; is = front s }
 
-  pub written-first : (s : List ℕ) → firstLine (lineOf r ++ s) ≡ lineOf r
-  unfolding lineOf spells-written
+  pub written-first : (s : List ℕ) → firstLine (recordLine r ++ s) ≡ recordLine r
+  unfolding recordLine spells-written
   written-first s = spells-first (spells-written s)
 
-  nothing-behind : lineOf r ++ [] ≡ lineOf r
-  unfolding lineOf
+  nothing-behind : recordLine r ++ [] ≡ recordLine r
+  unfolding recordLine
   nothing-behind = ap (λ (l : List ℕ). 58 ∷ l) (append-assoc (hexOf r) (10 ∷ []) [])
 
-  pub written-record : recordIn (lineOf r) ≡ r
+  pub written-record : recordIn (recordLine r) ≡ r
   unfolding spells-written
   written-record = ap recordIn (sym (written-first [])) ∙ spells-record (spells-written []) ∙ ap bytesOf capital-field ∙ bytes-hex r bytes
 
-  pub written-formed : sound r ≡ true → wellFormed (lineOf r) ≡ true
-  unfolding wellFormed
+  pub written-formed : sound r ≡ true → goodRecord (recordLine r) ≡ true
+  unfolding goodRecord
   written-formed h =
-      let s : spelled (lineOf r) ≡ true = ap spelled (sym (written-first [])) ∙ spells-spelled (spells-written []) in
+      let s : spelled (recordLine r) ≡ true = ap spelled (sym (written-first [])) ∙ spells-spelled (spells-written []) in
       rw (s, ap sound written-record ∙ h)
 
-  pub written-lines : (s : List ℕ) → linesOf (lineOf r ++ s) ≡ lineOf r ∷ linesOf s
+  pub written-lines : (s : List ℕ) → linesOf (recordLine r ++ s) ≡ recordLine r ∷ linesOf s
   written-lines s =
-      let some : 0 < length (lineOf r ++ s) = rw (front s) (omega arith) in
-      lines-first (lineOf r ++ s) some
-      ∙ ap₂ (λ (l : List ℕ) (t : List ℕ). l ∷ linesOf t) (written-first s) (ap (λ (l : List ℕ). drop (length l) (lineOf r ++ s)) (written-first s) ∙ drop-append-seam (lineOf r) s)
+      let some : 0 < length (recordLine r ++ s) = rw (front s) (omega arith) in
+      lines-first (recordLine r ++ s) some
+      ∙ ap₂ (λ (l : List ℕ) (t : List ℕ). l ∷ linesOf t) (written-first s) (ap (λ (l : List ℕ). drop (length l) (recordLine r ++ s)) (written-first s) ∙ drop-append-seam (recordLine r) s)
 
 -- all bytes with the sum
 sum-append : (xs ys : List ℕ) → sumOf (xs ++ ys) ≡ sumOf xs + sumOf ys

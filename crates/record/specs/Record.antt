@@ -45,6 +45,10 @@ lengthOf r = getD r 0 0
 unfoldable pub offsetOf : List ℕ → ℕ
 offsetOf r = getD r 1 0 * 256 + getD r 2 0
 
+-- so many offsets there are, 64 KiB
+abbrev pub offsetCount : ℕ
+offsetCount = 0x10000
+
 -- type
 unfoldable pub typeOf : List ℕ → ℕ
 typeOf r = getD r 3 0
@@ -71,8 +75,8 @@ unfoldable pub sound : List ℕ → Bool
 sound r = suits (typeOf r) (lengthOf r) (offsetOf r) && eqb (sumOf r % 256) 0
 
 -- the line is no bad record
-unfoldable pub wellFormed : List ℕ → Bool
-wellFormed l = spelled l && sound (recordIn l)
+unfoldable pub goodRecord : List ℕ → Bool
+goodRecord l = spelled l && sound (recordIn l)
 
 -- a record without its sum gets it
 unfoldable pub summed : List ℕ → List ℕ
@@ -83,5 +87,5 @@ unfoldable pub recordOf : ℕ → ℕ → List ℕ → List ℕ
 recordOf type offset xs = summed (length xs ∷ offset / 256 ∷ offset % 256 ∷ type ∷ xs)
 
 -- "in one spelling", "capitals, LF": the line of a record
-unfoldable pub lineOf : List ℕ → List ℕ
-lineOf r = mark ∷ (hexOf r ++ (10 ∷ []))
+unfoldable pub recordLine : List ℕ → List ℕ
+recordLine r = mark ∷ (hexOf r ++ (10 ∷ []))

@@ -6,7 +6,7 @@ use lib.Dec.{eqb}
 use lib.ListN.{length, getD}
 use Rattle.laws.specs.Bytes.{put}
 use Rattle.laws.specs.Lines.{firstLine}
-use Rattle.record.specs.Record.{spelled, recordIn, wellFormed}
+use Rattle.record.specs.Record.{spelled, recordIn, goodRecord}
 
 -- where a line ends whose digits end at a place of a text; 0 where neither LF nor CR LF stands there
 unfoldable pub lineEnd : List ℕ → ℕ → ℕ
@@ -17,8 +17,8 @@ unfoldable pub spelledLength : List ℕ → ℕ
 spelledLength t = cond (spelled (firstLine t)) (length (firstLine t)) 0
 
 -- how long it is; 0 where it is a bad record
-unfoldable pub lineLength : List ℕ → ℕ
-lineLength t = cond (wellFormed (firstLine t)) (length (firstLine t)) 0
+unfoldable pub recordLineLength : List ℕ → ℕ
+recordLineLength t = cond (goodRecord (firstLine t)) (length (firstLine t)) 0
 
 -- a buffer with the record of the first line in front, where it spells one
 unfoldable pub recordLaid : List ℕ → List ℕ → List ℕ

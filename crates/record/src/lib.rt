@@ -4,8 +4,8 @@ ghost use mathlib.Core.Path.{_≡_};
 ghost use Prim.Native.Nat.{_+_, _-_, _*_, _%_, _≤_, _<_};
 ghost use lib.ListN.{length};
 ghost use Rattle.laws.specs.Bytes.{put};
-ghost use Rattle.record.specs.Record.{suits, sumOf, sound, recordOf, lineOf};
-ghost use Rattle.record.specs.Ways.{lineEnd, spelledLength, lineLength, recordLaid};
+ghost use Rattle.record.specs.Record.{suits, sumOf, sound, recordOf, recordLine};
+ghost use Rattle.record.specs.Ways.{lineEnd, spelledLength, recordLineLength, recordLaid};
 
 // The bytes of a record in front of its data, those beside them, and all bytes of the longest record.
 const HEAD: usize = 4;
@@ -21,13 +21,20 @@ pub const END: u8 = 1;
 
 pub const UPPER: u8 = 4;
 
-const START: u8 = 5;
+pub const START: u8 = 5;
+
+// The data bytes of those that are not data.
+pub const END_BYTES: u8 = 0;
+
+pub const UPPER_BYTES: u8 = 2;
+
+pub const START_BYTES: u8 = 4;
 
 // How long the line of a record without data is, as it is written.
 pub const LINE: usize = 2 + FRAME * 2;
 
 // Where the digits of a record without data end, in its line.
-const SHORTEST: usize = 1 + FRAME * 2;
+pub const SHORTEST: usize = 1 + FRAME * 2;
 
 // Where the line ends whose digits end at place `end`; 0 where neither LF nor CR LF stands there.
 fn line_end(rest: &[u8], end: usize) -> usize
@@ -101,9 +108,9 @@ fn suits(kind: u8, bytes: u8, offset: u16) -> bool
         return false;
     }
     match kind {
-        END => bytes == 0,
-        UPPER => bytes == 2,
-        START => bytes == 4,
+        END => bytes == END_BYTES,
+        UPPER => bytes == UPPER_BYTES,
+        START => bytes == START_BYTES,
         _ => false,
     }
 }
@@ -123,7 +130,7 @@ fn sound(bytes: &[u8]) -> bool
 // for a bad record.
 pub fn read(rest: &[u8], out: &mut [u8]) -> usize
     requires { ⌜ 260 ≤ length (now out) ⌝ }
-    ensures { λ r. ⌜ (r ≡ lineLength (now (rest .entry))) × (now (out .exit) ≡ recordLaid (now (rest .entry)) (now (out .entry))) ⌝ }
+    ensures { λ r. ⌜ (r ≡ recordLineLength (now (rest .entry))) × (now (out .exit) ≡ recordLaid (now (rest .entry)) (now (out .entry))) ⌝ }
 {
     let length = spelled_length(rest);
     if length == 0 {
@@ -145,7 +152,7 @@ fn complement(sum: u8) -> u8
 // Writes the line of a record into `out` from place `at` on.
 fn spell(bytes: &[u8], out: &mut [u8], at: usize)
     requires { ⌜ at + (2 + length (now bytes) * 2) ≤ length (now out) ⌝ }
-    ensures { λ _. ⌜ now (out .exit) ≡ put at (lineOf (now (bytes .entry))) (now (out .entry)) ⌝ }
+    ensures { λ _. ⌜ now (out .exit) ≡ put at (recordLine (now (bytes .entry))) (now (out .entry)) ⌝ }
 {
     let end = at + 1 + bytes.len() * 2;
     out[at] = b':';
@@ -155,8 +162,8 @@ fn spell(bytes: &[u8], out: &mut [u8], at: usize)
 
 // Writes the line of a record of this type, offset and data into `out` from place `at` on, and gives its length.
 pub fn write(kind: u8, offset: u16, data: &[u8], out: &mut [u8], at: usize) -> usize
-    requires { ⌜ (length (now «data») < 256) × (at + length (lineOf (recordOf kind offset (now «data»))) ≤ length (now out)) ⌝ }
-    ensures { λ r. ⌜ (now (out .exit) ≡ put at (lineOf (recordOf kind offset (now («data» .entry)))) (now (out .entry))) × (r ≡ length (lineOf (recordOf kind offset (now («data» .entry))))) ⌝ }
+    requires { ⌜ (length (now «data») < 256) × (at + length (recordLine (recordOf kind offset (now «data»))) ≤ length (now out)) ⌝ }
+    ensures { λ r. ⌜ (now (out .exit) ≡ put at (recordLine (recordOf kind offset (now («data» .entry)))) (now (out .entry))) × (r ≡ length (recordLine (recordOf kind offset (now («data» .entry))))) ⌝ }
 {
     let head = [
         data.len() as u8,

@@ -1,5 +1,6 @@
 -- `ihex::lay` meets its contract. Assumes nothing.
 use native.Mathlib.Omega.{arith}
+use Rattle.pieces.proofs.Placing.{placing-places}
 use Rattle.ihex.proofs.Laying.{data-is, no-data, placed-laid}
 use borrow.Author.Needs.{needs}
 use Rattle.ihex.proofs.lay.Statement.{statement}
@@ -40,7 +41,7 @@ same-length-2 c = search needs
 returns-2 : tie.Need-returns-2
 returns-2 c =
     let s = c .before .before .before .before .before .before .before .before .before .before .before .before .before .before in
-    λ ps h. placed-laid (s .args .board .pages) (s .args .upper) ps (s .args .«record» .now) (c .before .before .before .before .place .result) _ _ _ _ (c .before .before .before .before .before .before .before .before .before .if1 .left) (c .before .before .before .before .before .before .before .before .address .ensures) (data-is _ (s .pre .0)) (c .before .before .before .before .place .ensures ps h)
+    λ ps h. placed-laid (s .args .board .pages) (s .args .upper) ps (s .args .«record» .now) (c .before .before .before .before .place .result) _ _ _ _ (c .before .before .before .before .before .before .before .before .before .if1 .left) (c .before .before .before .before .before .before .before .before .address .ensures) (data-is _ (s .pre .0)) (placing-places _ _ _ _ _ _ _ _ _ (c .before .before .before .before .place .ensures) ps h)
 
 pub lay-spec : {M : Type 1} → statement M
 lay-spec =

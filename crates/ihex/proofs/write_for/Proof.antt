@@ -3,7 +3,7 @@ use native.Mathlib.Omega.{arith}
 use Rattle.board.proofs.Supply.{fit-some}
 use Rattle.refusal.proofs.Delivery.{delivers-refusal, delivers-eleven, delivers-bytes}
 use Rattle.refusal.proofs.First.{first-here, first-on, first-none}
-use Rattle.ihex.specs.Writing.{textOf, writeOf}
+use Rattle.ihex.specs.Writing.{hexText, hexWritten}
 use lib.ListN.{length}
 use Prim.Native.Nat.{_≤_, _<_}
 use mathlib.Core.Path.{_≡_, sym, _∙_}
@@ -15,15 +15,15 @@ unfit-requires : tie.Need-unfit-requires
 unfit-requires c κs = search needs
 
 returns : tie.Need-returns
-unfolding writeOf
+unfolding hexWritten
 returns c = delivers-refusal _ _ _ _ (first-here _ _ _ (sym (c .before .unfit .ensures) ∙ c .if1 .taken))
 
 text-size-requires : tie.Need-text-size-requires
 text-size-requires c κs = let s = c .before .before .before .before .args in let f = fit-some (s .board .pages) (length (s .image .now)) (sym (c .before .unfit .ensures) ∙ c .if1 .left) in let p = c .before .before .before .before .pre in omega arith
 
 returns-2 : tie.Need-returns-2
-unfolding writeOf
-returns-2 c = let e = c .before .text-size .ensures in delivers-eleven _ (textOf (c .before .before .before .before .before .before .args .image .now)) _ (first-on _ _ _ (sym (c .before .before .before .unfit .ensures) ∙ c .before .before .if1 .left) ∙ first-none) (let h : length (c .before .before .before .before .before .before .args .out .now) < length (textOf (c .before .before .before .before .before .before .args .image .now)) = let t = c .if2 .taken in omega arith in h)
+unfolding hexWritten
+returns-2 c = let e = c .before .text-size .ensures in delivers-eleven _ (hexText (c .before .before .before .before .before .before .args .image .now)) _ (first-on _ _ _ (sym (c .before .before .before .unfit .ensures) ∙ c .before .before .if1 .left) ∙ first-none) (let h : length (c .before .before .before .before .before .before .args .out .now) < length (hexText (c .before .before .before .before .before .before .args .image .now)) = let t = c .if2 .taken in omega arith in h)
 
 spell-requires : tie.Need-spell-requires
 spell-requires c κs = let s = c .before .before .before .before .before .before .before .args in let f = fit-some (s .board .pages) (length (s .image .now)) (sym (c .before .before .before .before .unfit .ensures) ∙ c .before .before .before .if1 .left) in let p = c .before .before .before .before .before .before .before .pre in let e = c .before .before .text-size .ensures in let t = c .before .if2 .left in (omega arith, omega arith)
@@ -32,8 +32,8 @@ same-length : tie.Need-same-length
 same-length c = search needs
 
 returns-3 : tie.Need-returns-3
-unfolding writeOf
-returns-3 c = let s = c .before .before .before .before .before .before .before .before .before .before in let e = c .before .before .before .before .before .text-size .ensures in delivers-bytes _ (textOf (s .args .image .now)) _ (first-on _ _ _ (sym (c .before .before .before .before .before .before .before .unfit .ensures) ∙ c .before .before .before .before .before .before .if1 .left) ∙ first-none) _ _ e (let h : length (textOf (s .args .image .now)) ≤ length (s .args .out .now) = let t = c .before .before .before .before .if2 .left in omega arith in h) (c .before .before .spell .ensures)
+unfolding hexWritten
+returns-3 c = let s = c .before .before .before .before .before .before .before .before .before .before in let e = c .before .before .before .before .before .text-size .ensures in delivers-bytes _ (hexText (s .args .image .now)) _ (first-on _ _ _ (sym (c .before .before .before .before .before .before .before .unfit .ensures) ∙ c .before .before .before .before .before .before .if1 .left) ∙ first-none) _ _ e (let h : length (hexText (s .args .image .now)) ≤ length (s .args .out .now) = let t = c .before .before .before .before .if2 .left in omega arith in h) (c .before .before .spell .ensures)
 
 pub write-for-spec : {M : Type 1} → statement M
 write-for-spec =
