@@ -51,7 +51,7 @@ fn hold(job: &[u8], card: &[u8], much: usize) {
         STDOUT_FILENO,
         much,
         2,
-        b"image|image.bin|job, image and card; in HEX it is called image.hex",
+        b"image|image.bin|job, image and card; an image in HEX is called image.hex there",
         &mut image,
     );
     if got.is_read && much != telling::NOTHING {

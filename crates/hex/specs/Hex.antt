@@ -1,10 +1,10 @@
--- Hexadecimal digits and fields. Document 01, "Job text". Assumes nothing.
+-- Hexadecimal digits and fields. Document 01, "Job text"; document 02, CR 1. Assumes nothing.
 use mathlib.Core.Bool.{Bool, true, cond, _&&_}
 use mathlib.Core.List.{List, [], _∷_}
 use Prim.Native.Nat.{ℕ, _+_, _-_, _*_, _/_, _%_}
 use lib.Dec.{leb, ltb}
 
--- "Upper case only": the value of a digit, and 16 for any other byte. No other definition says which bytes are digits.
+-- "Upper case only": the value of a digit, and 16 for any other byte. Which small letters are digits too, `capitalOf` says; nothing else says which bytes are.
 unfoldable pub valueOf : ℕ → ℕ
 valueOf d = cond (leb 48 d && leb d 57) (d - 48) (cond (leb 65 d && leb d 70) (d - 55) 16)
 

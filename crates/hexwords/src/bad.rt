@@ -5,9 +5,6 @@ use crate::fields;
 use crate::lines;
 use crate::say;
 
-// The characters of a record without data.
-const SHORTEST: usize = 1 + record::FRAME * 2;
-
 // The place of the first character behind the colon that is no digit, or the record's end.
 fn first_strange(record: &[u8]) -> usize
     ensures { λ r. ⌜ r ≤ length (now («record» .entry)) + 1 ⌝ }
@@ -43,15 +40,15 @@ fn last(record: &[u8]) -> u8 {
 
 // The characters that a record has by its length field.
 fn wanted(record: &[u8]) -> usize {
-    fields::count(record) as usize * 2 + SHORTEST
+    fields::count(record) as usize * 2 + record::SHORTEST
 }
 
 // The length field of a record that is not of type 00, and 255 for a type that is not read.
 fn length_of(kind: u8) -> u8 {
     match kind {
-        1 => 0,
-        4 => 2,
-        5 => 4,
+        record::END => record::END_BYTES,
+        record::UPPER => record::UPPER_BYTES,
+        record::START => record::START_BYTES,
         _ => 255,
     }
 }
@@ -73,7 +70,7 @@ fn misspelling(record: &[u8]) -> usize {
     if first_strange(record) < record.len() {
         return 3;
     }
-    if record.len() < SHORTEST {
+    if record.len() < record::SHORTEST {
         return 4;
     }
     if record.len() != wanted(record) {
@@ -86,15 +83,33 @@ fn misspelling(record: &[u8]) -> usize {
     misuse(fields::kind(record))
 }
 
+// What is wrong with a line that does not end: what is no HEX at all, lines that end in CR alone, or a text that was
+// cut.
+fn unclosed(record: &[u8]) -> usize {
+    if buffer::byte_at(record, 0) != b':' {
+        return 2;
+    }
+    let strange = first_strange(record);
+    if strange + 1 < record.len() && buffer::byte_at(record, strange) == b'\r' {
+        9
+    } else {
+        0
+    }
+}
+
 // What is wrong with a line, its end left out where it has one.
 fn reason(is_ended: bool, record: &[u8]) -> usize {
-    if is_ended { misspelling(record) } else { 0 }
+    if is_ended {
+        misspelling(record)
+    } else {
+        unclosed(record)
+    }
 }
 
 fn describe(number: usize, reason: usize, record: &[u8]) {
     let kind = fields::kind(record);
     say::fill(
-        b"Line # of the HEX text [does not end: the text stops there. Get the file again if it was cut, else end the line with LF or CR LF|is empty. Take it out|does not begin with a colon, as every record does. Give a file in Intel HEX, or take out what is no record|has a character that is no hexadecimal digit, number # in the line. Get the file again, or write it anew|has # of the 11 characters that the shortest record has. Get the file again, or write it anew|has # characters and not #, as its length field % asks for. Get the file again, or write it anew|is a record of type %, and only 00, 01, 04 and 05 are read. Write the HEX with linear addresses of 32 bits|is a record of type %, with length field % and offset %%: these have to be % and 0000. Write the HEX anew|has the sum %, and its other bytes ask for %: it was changed or damaged. Get the file again, or write it anew].\n",
+        b"Line # of the HEX text [does not end: the text stops there. Get the file again if it was cut, else end the line with LF or CR LF|is empty. Take it out|does not begin with a colon, as every record does. Give a file in Intel HEX, or take out what is no record|has a character that is no hexadecimal digit, number # in the line. Get the file again, or write it anew|has # of the 11 characters that the shortest record has. Get the file again, or write it anew|has # characters and not #, as its length field % asks for. Get the file again, or write it anew|is a record of type %, and only 00, 01, 04 and 05 are read. Write the HEX with linear addresses of 32 bits|is a record of type %, with length field % and offset %%: these have to be % and 0000. Write the HEX anew|has the sum %, and its other bytes ask for %: it was changed or damaged. Get the file again, or write it anew|has a CR without the LF that would end the line, number # in it. Write the file with LF or CR LF at the end of each line].\n",
         &[
             number,
             reason,
@@ -111,6 +126,7 @@ fn describe(number: usize, reason: usize, record: &[u8]) {
             length_of(kind) as usize,
             last(record) as usize,
             std::num::wrapping_sub_u8(last(record), sum(record)) as usize,
+            first_strange(record) + 1,
         ],
     );
 }

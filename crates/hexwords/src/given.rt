@@ -46,8 +46,8 @@ fn overlap(seen: Seen, number: usize, span: Span, from: usize) -> Seen {
 fn more(seen: Seen, number: usize, record: &[u8], from: usize) -> Seen {
     let kind = fields::kind(record);
     match kind {
-        0 => overlap(seen, number, span_of(seen.upper, record), from),
-        4 => Seen {
+        record::DATA => overlap(seen, number, span_of(seen.upper, record), from),
+        record::UPPER => Seen {
             upper: fields::half(record),
             ..seen
         },

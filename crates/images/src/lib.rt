@@ -38,7 +38,7 @@ fn is_found_hex(argument: usize) -> bool {
     if argument < os::arg_count() {
         return false;
     }
-    if lacks(argument, b"image|image.hex") {
+    if lacks(argument, b"image|image.hex|all files") {
         return false;
     }
     lacks(argument, b"image|image.bin")
@@ -117,7 +117,7 @@ pub fn load(fd: i32, much: usize, argument: usize, file: &[u8], image: &mut [u8]
         return hex(fd, much, argument, file, image);
     }
     if is_found_hex(argument) {
-        return hex(fd, much, argument, b"image|image.hex", image);
+        return hex(fd, much, argument, b"image|image.hex|all files", image);
     }
     telling::load(fd, much, argument, file, image)
 }

@@ -35,7 +35,7 @@ fn make(card: &[u8]) {
         STDERR_FILENO,
         telling::WORDS,
         1,
-        b"image|image.bin|image and card; in HEX it is called image.hex",
+        b"image|image.bin|image and card; an image in HEX is called image.hex there",
         &mut image,
     );
     if got.is_read {
