@@ -9,9 +9,10 @@ use lib.Seq.{length-take-le, take-at, drop-at, drop-append-add, drop-drop, take-
 use Rattle.laws.specs.Bytes.{put}
 use Rattle.laws.proofs.Bytes.{sets-put, put-length}
 use Rattle.laws.proofs.Append.{put-behind}
-use Rattle.hex.specs.Hex.{valueOf, byteOf, allDigits, capitalOf, capitals, bytesOf}
-use Rattle.hex.proofs.Fields.{bytes-length, bytes-of-take, bytes-of-drop, byte-of, digits-take, digits-drop}
-use Rattle.hex.proofs.Either.{capitals-length, capitals-at, capitals-part, part-length, either-at}
+use Rattle.digit.specs.Digit.{valueOf, byteOf}
+use Rattle.hex.specs.Hex.{allDigits, bytesOf}
+use Rattle.hex.proofs.Fields.{bytes-length, bytes-of-take, bytes-of-drop, byte-of, digit-at, digits-take, digits-drop}
+use Rattle.hex.proofs.Looking.{part-length, part-is}
 
 -- nothing laid, and bytes laid over no more bytes at the same place
 pub put-none : (at : ℕ) (m : List ℕ) → at ≤ length m → m ≡ put at [] m
@@ -59,35 +60,31 @@ put-over-part at last i xs m h k room =
 
 -- eight bytes of a field, by the sixteen digits that spell them
 module _ (ds : List ℕ) (i : ℕ) where
-  pub part-bytes : bytesOf (capitals (take (i * 2 + 16 - i * 2) (drop (i * 2) ds))) ≡ take 8 (drop i (bytesOf (capitals ds)))
+  pub part-bytes : bytesOf (take (i * 2 + 16 - i * 2) (drop (i * 2) ds)) ≡ take 8 (drop i (bytesOf ds))
   part-bytes =
-      ap bytesOf (capitals-part ds (i * 2) 16)
-      ∙ bytes-of-take 8 (drop (i * 2) (capitals ds))
-      ∙ ap (take 8) (bytes-of-drop i (capitals ds))
+      ap bytesOf (part-is ds (i * 2) 16)
+      ∙ bytes-of-take 8 (drop (i * 2) ds)
+      ∙ ap (take 8) (bytes-of-drop i ds)
 
-  pub part-digits : allDigits (capitals ds) ≡ true → allDigits (capitals (take (i * 2 + 16 - i * 2) (drop (i * 2) ds))) ≡ true
-  part-digits h = ap allDigits (capitals-part ds (i * 2) 16) ∙ digits-take 16 (drop (i * 2) (capitals ds)) (digits-drop (i * 2) (capitals ds) h)
-
--- how many bytes a field spells
-bytes-count : (ds : List ℕ) → length (bytesOf (capitals ds)) ≡ length ds / 2
-bytes-count ds = bytes-length (capitals ds) ∙ ap (λ (n : ℕ). n / 2) (capitals-length ds)
+  pub part-digits : allDigits ds ≡ true → allDigits (take (i * 2 + 16 - i * 2) (drop (i * 2) ds)) ≡ true
+  part-digits h = ap allDigits (part-is ds (i * 2) 16) ∙ digits-take 16 (drop (i * 2) ds) (digits-drop (i * 2) ds h)
 
 -- they are eight
-pub part-eight : (ds bytes : List ℕ) (i : ℕ) → bytes ≡ bytesOf (capitals (take (i * 2 + 16 - i * 2) (drop (i * 2) ds))) → i + 8 ≤ length ds / 2 → length bytes ≡ 8
+pub part-eight : (ds bytes : List ℕ) (i : ℕ) → bytes ≡ bytesOf (take (i * 2 + 16 - i * 2) (drop (i * 2) ds)) → i + 8 ≤ length ds / 2 → length bytes ≡ 8
 part-eight ds bytes i is fit =
     let room : i * 2 + 16 ≤ length ds = omega arith in
     let l = part-length ds (i * 2) 16 room in
     let p = take (i * 2 + 16 - i * 2) (drop (i * 2) ds) in
-    let c = bytes-count p in
-    let e : length (bytesOf (capitals p)) ≡ 8 = omega arith in
+    let c = bytes-length p in
+    let e : length (bytesOf p) ≡ 8 = omega arith in
     ap length is ∙ e
 
 -- a turn of the loop that reads eight bytes at a time, and its end with the last eight
-module _ (ds m m₀ bytes : List ℕ) (at i : ℕ) (room : at + length ds / 2 ≤ length m₀) (is : bytes ≡ bytesOf (capitals (take (i * 2 + 16 - i * 2) (drop (i * 2) ds)))) (fit : i + 8 ≤ length ds / 2) where
-  pub eight-turn : m ≡ put at (take i (bytesOf (capitals ds))) m₀ → put (at + i) bytes m ≡ put at (take (i + 8) (bytesOf (capitals ds))) m₀
+module _ (ds m m₀ bytes : List ℕ) (at i : ℕ) (room : at + length ds / 2 ≤ length m₀) (is : bytes ≡ bytesOf (take (i * 2 + 16 - i * 2) (drop (i * 2) ds))) (fit : i + 8 ≤ length ds / 2) where
+  pub eight-turn : m ≡ put at (take i (bytesOf ds)) m₀ → put (at + i) bytes m ≡ put at (take (i + 8) (bytesOf ds)) m₀
   eight-turn inv =
-      let xs = bytesOf (capitals ds) in
-      let c : length xs ≡ length ds / 2 = bytes-count ds in
+      let xs = bytesOf ds in
+      let c : length xs ≡ length ds / 2 = bytes-length ds in
       let a : length (take i xs) ≡ i = length-take-le i xs (omega arith) in
       let d : length (drop i xs) ≡ length xs - i = length-drop i xs in
       let b : length (take 8 (drop i xs)) ≡ 8 = length-take-le 8 (drop i xs) (omega arith) in
@@ -96,20 +93,20 @@ module _ (ds m m₀ bytes : List ℕ) (at i : ℕ) (room : at + length ds / 2 �
       ∙ put-behind at (at + i) (take i xs) (take 8 (drop i xs)) m₀ j (omega arith)
       ∙ ap (λ (l : List ℕ). put at l m₀) (sym (take-add i 8 xs))
 
-  pub eight-end : (k : ℕ) → i + 8 ≡ length ds / 2 → i ≤ k → k ≤ length ds / 2 → m ≡ put at (take k (bytesOf (capitals ds))) m₀ → put (at + i) bytes m ≡ put at (bytesOf (capitals ds)) m₀
+  pub eight-end : (k : ℕ) → i + 8 ≡ length ds / 2 → i ≤ k → k ≤ length ds / 2 → m ≡ put at (take k (bytesOf ds)) m₀ → put (at + i) bytes m ≡ put at (bytesOf ds) m₀
   eight-end k e h u inv =
-      let xs = bytesOf (capitals ds) in
-      let c : length xs ≡ length ds / 2 = bytes-count ds in
+      let xs = bytesOf ds in
+      let c : length xs ≡ length ds / 2 = bytes-length ds in
       let d : length (drop i xs) ≡ length xs - i = length-drop i xs in
       let all : take 8 (drop i xs) ≡ drop i xs = take-all 8 (drop i xs) (omega arith) in
       ap₂ (put (at + i)) (is ∙ part-bytes ds i ∙ all) inv ∙ put-over-part at i k xs m₀ h (omega arith) (omega arith)
 
 -- two of sixteen digits, and the eight bytes that they spell, one by one
-pub two-fit : (ds : List ℕ) (i j : ℕ) → length ds ≡ 16 → allDigits (capitals ds) ≡ true → i < 16 → j < 16 → (valueOf (capitalOf (getD ds i 0)) < 16) × (valueOf (capitalOf (getD ds j 0)) < 16)
+pub two-fit : (ds : List ℕ) (i j : ℕ) → length ds ≡ 16 → allDigits ds ≡ true → i < 16 → j < 16 → (valueOf (getD ds i 0) < 16) × (valueOf (getD ds j 0) < 16)
 two-fit ds i j l h u v =
     let a : i < length ds = omega arith in
     let b : j < length ds = omega arith in
-    (either-at ds i h a, either-at ds j h b)
+    (digit-at ds i h a, digit-at ds j h b)
 
 listed : ℕ → ℕ → List ℕ → List ℕ
 listed zero i xs = []
@@ -124,17 +121,16 @@ listed-is (suc n) i xs e =
     ap (λ (l : List ℕ). getD xs i 0 ∷ l) (listed-is n (suc i) xs f) ∙ sym (drop-cons xs i 0 h)
 
 module _ (ds : List ℕ) (is : length ds ≡ 16) where
-  byte-here : (i x : ℕ) → i < 8 → x ≡ byteOf (capitalOf (getD ds (i * 2) 0)) (capitalOf (getD ds (i * 2 + 1) 0)) → x ≡ getD (bytesOf (capitals ds)) i 0
+  byte-here : (i x : ℕ) → i < 8 → x ≡ byteOf (getD ds (i * 2) 0) (getD ds (i * 2 + 1) 0) → x ≡ getD (bytesOf ds) i 0
   byte-here i x k e =
-      let c = capitals-length ds in
-      let h : i < length (capitals ds) / 2 = omega arith in
-      e ∙ ap₂ byteOf (sym (capitals-at ds (i * 2))) (sym (capitals-at ds (i * 2 + 1))) ∙ byte-of (capitals ds) i h
+      let h : i < length ds / 2 = omega arith in
+      e ∙ byte-of ds i h
 
   module _ (s t u v w x y z : ℕ) where
-    pub eight-listed : s ≡ byteOf (capitalOf (getD ds 0 0)) (capitalOf (getD ds 1 0)) → t ≡ byteOf (capitalOf (getD ds 2 0)) (capitalOf (getD ds 3 0)) → u ≡ byteOf (capitalOf (getD ds 4 0)) (capitalOf (getD ds 5 0)) → v ≡ byteOf (capitalOf (getD ds 6 0)) (capitalOf (getD ds 7 0)) → w ≡ byteOf (capitalOf (getD ds 8 0)) (capitalOf (getD ds 9 0)) → x ≡ byteOf (capitalOf (getD ds 10 0)) (capitalOf (getD ds 11 0)) → y ≡ byteOf (capitalOf (getD ds 12 0)) (capitalOf (getD ds 13 0)) → z ≡ byteOf (capitalOf (getD ds 14 0)) (capitalOf (getD ds 15 0)) → s ∷ t ∷ u ∷ v ∷ w ∷ x ∷ y ∷ z ∷ [] ≡ bytesOf (capitals ds)
+    pub eight-listed : s ≡ byteOf (getD ds 0 0) (getD ds 1 0) → t ≡ byteOf (getD ds 2 0) (getD ds 3 0) → u ≡ byteOf (getD ds 4 0) (getD ds 5 0) → v ≡ byteOf (getD ds 6 0) (getD ds 7 0) → w ≡ byteOf (getD ds 8 0) (getD ds 9 0) → x ≡ byteOf (getD ds 10 0) (getD ds 11 0) → y ≡ byteOf (getD ds 12 0) (getD ds 13 0) → z ≡ byteOf (getD ds 14 0) (getD ds 15 0) → s ∷ t ∷ u ∷ v ∷ w ∷ x ∷ y ∷ z ∷ [] ≡ bytesOf ds
     unfolding listed
     eight-listed a b c d e f g h =
-        let n : 0 + 8 ≡ length (bytesOf (capitals ds)) = let k = bytes-count ds in omega arith in
+        let n : 0 + 8 ≡ length (bytesOf ds) = let k = bytes-length ds in omega arith in
         ap₂ _∷_ (byte-here 0 s (omega arith) a)
         (ap₂ _∷_ (byte-here 1 t (omega arith) b)
         (ap₂ _∷_ (byte-here 2 u (omega arith) c)
@@ -143,4 +139,4 @@ module _ (ds : List ℕ) (is : length ds ≡ 16) where
         (ap₂ _∷_ (byte-here 5 x (omega arith) f)
         (ap₂ _∷_ (byte-here 6 y (omega arith) g)
         (ap₂ _∷_ (byte-here 7 z (omega arith) h) refl)))))))
-        ∙ listed-is 8 0 (bytesOf (capitals ds)) n
+        ∙ listed-is 8 0 (bytesOf ds) n

@@ -1,21 +1,21 @@
 -- Laws of a field: its length, its digits and bytes by place, and that field and bytes undo each other. Assumes nothing.
 use mathlib.Core.Path.{_≡_, refl, ap₂, _∙_, sym}
-use mathlib.Core.Bool.{true, cond, _&&_}
+use mathlib.Core.Bool.{true, _&&_}
 use mathlib.Core.List.{List, [], _∷_}
 use Prim.Native.Nat.{ℕ, zero, suc, _+_, _*_, _/_, _%_, _≤_, _<_}
 use native.Mathlib.Omega.{arith}
 use native.Mathlib.Numerals.{add-one, add-two}
-use lib.Dec.{ltb, eqb}
+use lib.Dec.{ltb}
 use lib.ListN.{length, take, drop, getD, set, drop-of-length-le}
 use lib.Seq.{drop-cons, sets}
-use borrow.Author.Tests.{lt-ltb, le-ltb, ltb-true, ne-eqb}
+use borrow.Author.Tests.{lt-ltb, ltb-true}
 use Rattle.laws.specs.Bytes.{put}
 use Rattle.laws.proofs.Bytes.{sets-turn, sets-end, sets-put}
-use Rattle.laws.proofs.Split.{by-bool, by-lt, and-true, and-right-false, and-right-true}
+use Rattle.laws.proofs.Split.{by-bool, and-true}
 use Rattle.laws.specs.Lists.{allBytes}
-use Rattle.hex.specs.Ways.{faultOf}
-use Rattle.hex.specs.Hex.{valueOf, digitOf, byteOf, allDigits, bytesOf, hexOf}
-use Rattle.hex.proofs.OneDigit.{value-digit, byte-digits, byte-high, byte-low, byte-small, fault-none, fault-one}
+use Rattle.digit.specs.Digit.{valueOf, digitOf, byteOf}
+use Rattle.digit.proofs.Values.{value-digit, digit-above, byte-digits, byte-high, byte-low, byte-small}
+use Rattle.hex.specs.Hex.{allDigits, capitals, bytesOf, hexOf}
 
 pub hex-length : (xs : List ℕ) → length (hexOf xs) ≡ length xs * 2
 unfolding hexOf
@@ -45,6 +45,10 @@ digit-at (d ∷ ds) zero h k = digits-cons d ds h .0
 digit-at (d ∷ ds) (suc i) h k =
     let l : i < length ds = omega arith in
     digit-at ds i (digits-cons d ds h .1) l
+
+-- a digit does not end a line
+pub digits-no-end : (ds : List ℕ) → allDigits ds ≡ true → (i : ℕ) → i < length ds → getD ds i 0 ≡ 10 → ⊥
+digits-no-end ds h i k e = let a : 48 ≤ getD ds i 0 = digit-above _ (digit-at ds i h k) in omega arith
 
 pub digits-take : (n : ℕ) (ds : List ℕ) → allDigits ds ≡ true → allDigits (take n ds) ≡ true
 unfolding allDigits
@@ -118,9 +122,9 @@ digits-hex (x ∷ xs) =
     let b : x % 16 < 16 = omega arith in
     rw (value-digit (x / 16), value-digit x, lt-ltb (x / 16 % 16) 16 a, lt-ltb (x % 16) 16 b, digits-hex xs)
 
--- spelling what was read gives the field, where it has digits only, and an even number of them
-pub hex-bytes : (ds : List ℕ) → allDigits ds ≡ true → length ds % 2 ≡ 0 → hexOf (bytesOf ds) ≡ ds
-unfolding hexOf bytesOf
+-- spelling what was read gives the field in capitals, where it has digits only, and an even number of them
+pub hex-bytes : (ds : List ℕ) → allDigits ds ≡ true → length ds % 2 ≡ 0 → hexOf (bytesOf ds) ≡ capitals ds
+unfolding hexOf bytesOf capitals
 hex-bytes [] h k = refl
 hex-bytes (d ∷ []) h k = absurd (omega arith)
 hex-bytes (d ∷ e ∷ ds) h k =
@@ -128,25 +132,6 @@ hex-bytes (d ∷ e ∷ ds) h k =
     let q = digits-cons e ds (p .1) in
     let m : length ds % 2 ≡ 0 = omega arith in
     rw (byte-high d e (p .0) (q .0), byte-low d e (p .0) (q .0), hex-bytes ds (q .1) m)
-
--- a turn of a loop that gathers the worst fault of a field's bytes, and its end
-pub digits-turn : (ds : List ℕ) (i worst f w : ℕ) → i < length ds → f ≡ faultOf (getD ds i 0) → w ≡ cond (ltb worst f) f worst → (eqb worst 0 && allDigits (drop i ds)) ≡ (eqb w 0 && allDigits (drop (i + 1) ds))
-unfolding allDigits
-digits-turn ds i worst f w h e g =
-    let d = getD ds i 0 in
-    by-lt (valueOf d) 16
-    (λ k.
-    let z : f ≡ 0 = e ∙ fault-none d k in
-    let n : f ≤ worst = omega arith in
-    rw (g, le-ltb worst f n, drop-cons ds i 0 h, lt-ltb (valueOf d) 16 k, add-one i))
-    (λ k.
-    let z : f ≡ 1 = e ∙ fault-one d k in
-    let s : w ≡ 0 → ⊥ = λ x. by-lt worst f (λ n. let q : w ≡ f = rw (g, lt-ltb worst f n) in omega arith) (λ n. let q : w ≡ worst = rw (g, le-ltb worst f n) in omega arith) in
-    rw (drop-cons ds i 0 h, le-ltb (valueOf d) 16 k, and-right-false (eqb worst 0), ne-eqb w 0 s))
-
-pub digits-end : (ds : List ℕ) (i worst : ℕ) → length ds ≤ i → (eqb worst 0 && allDigits (drop i ds)) ≡ eqb worst 0
-unfolding allDigits
-digits-end ds i worst h = rw (drop-of-length-le ds h, and-right-true (eqb worst 0))
 
 -- a turn of a loop that reads a field into m
 pub read-turn : (m ds : List ℕ) (at i v : ℕ) → i < length ds / 2 → v ≡ byteOf (getD ds (i * 2) 0) (getD ds (i * 2 + 1) 0) → sets m (at + i) (drop i (bytesOf ds)) ≡ sets (set m (at + i) v) (at + (i + 1)) (drop (i + 1) (bytesOf ds))

@@ -1,4 +1,4 @@
-pub mod OneDigit
 pub mod Fields
-pub mod Either
+pub mod Capitals
+pub mod Looking
 pub mod Eights

@@ -3,7 +3,8 @@ use mathlib.Core.Path.{_≡_, refl}
 use mathlib.Core.List.{List, [], _∷_, _++_}
 use Prim.Native.Nat.{ℕ}
 use lib.ListN.{length}
-use Rattle.hex.specs.Hex.{hexOf, digitOf}
+use Rattle.digit.specs.Digit.{digitOf}
+use Rattle.hex.specs.Hex.{hexOf}
 use Rattle.line.specs.Event.{lineOf}
 use Rattle.text.specs.Text.{textOf}
 use Rattle.plan.specs.Plan.{pagesFrom, planEvents, planOf}

@@ -12,8 +12,7 @@ use Rattle.laws.proofs.Append.{take-put}
 use Rattle.laws.proofs.Split.{by-bool, and-true}
 use Rattle.laws.specs.Lines.{firstLine}
 use Rattle.laws.proofs.Lines.{first-some}
-use Rattle.hex.specs.Hex.{byteOf, capitalOf, capitals, bytesOf}
-use Rattle.hex.proofs.Either.{capitals-at, capitals-length}
+use Rattle.hex.specs.Hex.{bytesOf}
 use Rattle.hex.proofs.Fields.{byte-of}
 use Rattle.record.specs.Record.{lengthIn, spelled, recordIn, lengthOf, typeOf, sound, goodRecord}
 use Rattle.record.specs.Ways.{recordLineLength, recordLaid}
@@ -25,11 +24,9 @@ length-field : {u : List ℕ} → (q : Spells u) → lengthOf (recordIn (firstLi
 unfolding lengthOf
 length-field {u} q =
     let t = q .twice in
-    let c = capitals-length (q .ds) in
-    let h : 0 < length (capitals (q .ds)) / 2 = omega arith in
+    let h : 0 < length (q .ds) / 2 = omega arith in
     ap (λ (l : List ℕ). getD l 0 0) (spells-record q)
-    ∙ sym (byte-of (capitals (q .ds)) 0 h)
-    ∙ ap₂ byteOf (capitals-at (q .ds) 0) (capitals-at (q .ds) 1)
+    ∙ sym (byte-of (q .ds) 0 h)
     ∙ sym (spells-length-here q)
 
 -- the first line of u is no bad record, and its record is in front of `after`

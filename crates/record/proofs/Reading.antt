@@ -10,9 +10,9 @@ use Rattle.laws.specs.Bytes.{put}
 use Rattle.laws.proofs.Append.{take-put}
 use Rattle.laws.proofs.Split.{by-bool}
 use Rattle.laws.specs.Lines.{firstLine}
-use Rattle.hex.specs.Hex.{valueOf, allDigits, capitalOf, capitals, bytesOf}
-use Rattle.hex.proofs.OneDigit.{byte-small}
-use Rattle.hex.proofs.Either.{capitals-length}
+use Rattle.digit.specs.Digit.{valueOf}
+use Rattle.digit.proofs.Values.{byte-small}
+use Rattle.hex.specs.Hex.{allDigits, bytesOf}
 use Rattle.hex.proofs.Fields.{bytes-length}
 use Rattle.record.specs.Record.{lengthIn, spelled, recordIn, sound, goodRecord}
 use Rattle.record.specs.Ways.{spelledLength, recordLineLength, recordLaid}
@@ -50,21 +50,20 @@ module _ {u : List ℕ} (q : Spells u) where
       let s = spells-length q in
       ⊎-elim (λ w. let k : length (q .e) ≡ 1 = ap length w in omega arith) (λ w. let k : length (q .e) ≡ 2 = ap length w in omega arith) (q .ends)
 
-  length-fits : (valueOf (capitalOf (getD u 1 0)) < 16) × (valueOf (capitalOf (getD u 2 0)) < 16)
+  length-fits : (valueOf (getD u 1 0) < 16) × (valueOf (getD u 2 0) < 16)
   length-fits = length-fit u (length-digits u q) spells-long
 
   pub length-small : lengthIn u < 256
   unfolding lengthIn
   length-small =
       let f = length-fits in
-      byte-small (capitalOf (getD u 1 0)) (capitalOf (getD u 2 0)) (f .0) (f .1)
+      byte-small (getD u 1 0) (getD u 2 0) (f .0) (f .1)
 
   pub record-length : length (recordIn (firstLine u)) ≡ 5 + lengthIn u
   record-length =
       let t = q .twice in
-      let c = capitals-length (q .ds) in
-      let b = bytes-length (capitals (q .ds)) in
-      let e : length (bytesOf (capitals (q .ds))) ≡ 5 + lengthIn u = omega arith in
+      let b = bytes-length (q .ds) in
+      let e : length (bytesOf (q .ds)) ≡ 5 + lengthIn u = omega arith in
       ap length (spells-record q) ∙ e
 
   -- n bytes are read from the digits behind the mark
@@ -74,15 +73,15 @@ module _ {u : List ℕ} (q : Spells u) where
         let e : 1 + n * 2 - 1 ≡ (5 + lengthIn u) * 2 = omega arith in
         ap (λ (k : ℕ). take k (drop 1 u)) e ∙ spells-field q
 
-    pub field-digits : allDigits (capitals (take (1 + n * 2 - 1) (drop 1 u))) ≡ true
-    field-digits = ap (λ (l : List ℕ). allDigits (capitals l)) field-is ∙ q .digits
+    pub field-digits : allDigits (take (1 + n * 2 - 1) (drop 1 u)) ≡ true
+    field-digits = ap allDigits field-is ∙ q .digits
 
     pub field-length : length (take (1 + n * 2 - 1) (drop 1 u)) ≡ n * 2
     field-length = let t = q .twice in let e : length (q .ds) ≡ n * 2 = omega arith in ap length field-is ∙ e
 
-    module _ (out after : List ℕ) (laid : after ≡ put 0 (bytesOf (capitals (take (1 + n * 2 - 1) (drop 1 u)))) out) where
+    module _ (out after : List ℕ) (laid : after ≡ put 0 (bytesOf (take (1 + n * 2 - 1) (drop 1 u))) out) where
       as-record : after ≡ put 0 (recordIn (firstLine u)) out
-      as-record = laid ∙ ap (λ (l : List ℕ). put 0 (bytesOf (capitals l)) out) field-is ∙ ap (λ (l : List ℕ). put 0 l out) (sym (spells-record q))
+      as-record = laid ∙ ap (λ (l : List ℕ). put 0 (bytesOf l) out) field-is ∙ ap (λ (l : List ℕ). put 0 l out) (sym (spells-record q))
 
       pub record-laid : after ≡ recordLaid u out
       unfolding recordLaid

@@ -15,9 +15,9 @@ use Rattle.laws.specs.Lists.{same}
 use Rattle.laws.proofs.Lists.{same-refl, same-eq}
 use Rattle.laws.specs.Lines.{firstLine}
 use Rattle.laws.proofs.Lines.{first-rest, first-past}
-use Rattle.hex.specs.Hex.{byteOf, valueOf, allDigits, capitalOf, capitals, bytesOf}
-use Rattle.hex.proofs.Either.{capitals-take, either-no-end, either-at}
-use Rattle.hex.proofs.Fields.{digits-take}
+use Rattle.digit.specs.Digit.{byteOf, valueOf}
+use Rattle.hex.specs.Hex.{allDigits, bytesOf}
+use Rattle.hex.proofs.Fields.{digit-at, digits-take, digits-no-end}
 use Rattle.record.specs.Record.{lengthIn, digitsIn, ended, spelled, recordIn}
 use Rattle.record.specs.Ways.{lineEnd, spelledLength}
 
@@ -30,7 +30,7 @@ pub record Spells (u : List ℕ) : Type 0 where
   pub ds : List ℕ
   pub e : List ℕ
   pub r : List ℕ
-  pub digits : allDigits (capitals ds) ≡ true
+  pub digits : allDigits ds ≡ true
   pub twice : length ds ≡ (5 + lengthIn u) * 2
   pub ends : Ends e
   pub is : u ≡ 58 ∷ (ds ++ (e ++ r))
@@ -43,12 +43,12 @@ unfolding firstLine
 first-end e r = ⊎-elim (λ w. rw w) (λ w. rw w)
 
 -- the length field is in the first digits
-pub length-in : (ds s : List ℕ) → 2 ≤ length ds → lengthIn (58 ∷ (ds ++ s)) ≡ byteOf (capitalOf (getD ds 0 0)) (capitalOf (getD ds 1 0))
+pub length-in : (ds s : List ℕ) → 2 ≤ length ds → lengthIn (58 ∷ (ds ++ s)) ≡ byteOf (getD ds 0 0) (getD ds 1 0)
 unfolding lengthIn
 length-in ds s h =
     let a : getD (ds ++ s) 0 0 ≡ getD ds 0 0 = List·getD-append ds s 0 0 (omega arith) in
     let b : getD (ds ++ s) 1 0 ≡ getD ds 1 0 = List·getD-append ds s 0 1 (omega arith) in
-    ap₂ (λ (x : ℕ) (y : ℕ). byteOf (capitalOf x) (capitalOf y)) a b
+    ap₂ byteOf a b
 
 same-of : (e a : List ℕ) → e ≡ a → same e a ≡ true
 same-of e a w = ap (λ (l : List ℕ). same l a) w ∙ same-refl a
@@ -61,7 +61,7 @@ module _ {u : List ℕ} (q : Spells u) where
   none zero k x = omega arith
   none (suc i) k x =
       let l : i < length (q .ds) = omega arith in
-      either-no-end (q .ds) (q .digits) i l x
+      digits-no-end (q .ds) (q .digits) i l x
 
   pub spells-first : firstLine u ≡ 58 ∷ (q .ds ++ q .e)
   spells-first =
@@ -69,7 +69,7 @@ module _ {u : List ℕ} (q : Spells u) where
       ∙ first-past (58 ∷ q .ds) (q .e ++ q .r) none
       ∙ ap (λ (l : List ℕ). 58 ∷ (q .ds ++ l)) (first-end (q .e) (q .r) (q .ends))
 
-  pub spells-length-here : lengthIn u ≡ byteOf (capitalOf (getD (q .ds) 0 0)) (capitalOf (getD (q .ds) 1 0))
+  pub spells-length-here : lengthIn u ≡ byteOf (getD (q .ds) 0 0) (getD (q .ds) 1 0)
   spells-length-here = ap lengthIn (q .is) ∙ length-in (q .ds) (q .e ++ q .r) (let h : 2 ≤ length (q .ds) = let l = long in omega arith in h)
 
   pub spells-length-in : lengthIn (firstLine u) ≡ lengthIn u
@@ -84,9 +84,9 @@ module _ {u : List ℕ} (q : Spells u) where
   unfolding digitsIn
   spells-digits = ap (λ (l : List ℕ). take ((5 + lengthIn (firstLine u)) * 2) (drop 1 l)) spells-first ∙ take-at (q .ds) (q .e) ((5 + lengthIn (firstLine u)) * 2) fits
 
-  pub spells-record : recordIn (firstLine u) ≡ bytesOf (capitals (q .ds))
+  pub spells-record : recordIn (firstLine u) ≡ bytesOf (q .ds)
   unfolding recordIn
-  spells-record = ap (λ (l : List ℕ). bytesOf (capitals l)) spells-digits
+  spells-record = ap bytesOf spells-digits
 
   behind : drop ((5 + lengthIn (firstLine u)) * 2) (drop 1 (firstLine u)) ≡ q .e
   behind = ap (λ (l : List ℕ). drop ((5 + lengthIn (firstLine u)) * 2) (drop 1 l)) spells-first ∙ drop-at (q .ds) (q .e) ((5 + lengthIn (firstLine u)) * 2) fits
@@ -105,7 +105,7 @@ module _ {u : List ℕ} (q : Spells u) where
   unfolding spelled
   spells-spelled =
       let k : getD (firstLine u) 0 0 ≡ 58 = ap (λ (l : List ℕ). getD l 0 0) spells-first in
-      rw (eq-eqb (getD (firstLine u) 0 0) 58 k, ap (λ (l : List ℕ). allDigits (capitals l)) spells-digits ∙ q .digits, ended-here)
+      rw (eq-eqb (getD (firstLine u) 0 0) 58 k, ap allDigits spells-digits ∙ q .digits, ended-here)
 
   pub spells-length : length (firstLine u) ≡ 11 + lengthIn u * 2 + length (q .e)
   spells-length =
@@ -147,8 +147,8 @@ unfolding spelled digitsIn ended
 spells u h =
     let l = firstLine u in
     let n = (5 + lengthIn l) * 2 in
-    let p = and-true (eqb (getD l 0 0) 58 && allDigits (capitals (take n (drop 1 l)))) (same (drop n (drop 1 l)) (10 ∷ []) || same (drop n (drop 1 l)) (13 ∷ 10 ∷ [])) h in
-    let p₀ = and-true (eqb (getD l 0 0) 58) (allDigits (capitals (take n (drop 1 l)))) (p .0) in
+    let p = and-true (eqb (getD l 0 0) 58 && allDigits (take n (drop 1 l))) (same (drop n (drop 1 l)) (10 ∷ []) || same (drop n (drop 1 l)) (13 ∷ 10 ∷ [])) h in
+    let p₀ = and-true (eqb (getD l 0 0) 58) (allDigits (take n (drop 1 l))) (p .0) in
     let k : getD l 0 0 ≡ 58 = eqb-true _ _ (p₀ .0) in
     let e = drop n (drop 1 l) in
     let ends : Ends e = or-elim (10 ∷ []) (13 ∷ 10 ∷ []) e (p .1) in
@@ -165,7 +165,7 @@ spells u h =
     record { ds = take n (drop 1 l); e = e; r = r; digits = p₀ .1; twice = size ∙ ap (λ (m : ℕ). (5 + m) * 2) (sym same-in); ends = ends; is = is }
 
 -- what stands so is a line that spells a record
-pub spells-if : (u e r : List ℕ) → 0 < length u → getD u 0 0 ≡ 58 → allDigits (capitals (take ((5 + lengthIn u) * 2) (drop 1 u))) ≡ true → (5 + lengthIn u) * 2 ≤ length (drop 1 u) → Ends e → drop (11 + lengthIn u * 2) u ≡ e ++ r → Spells u
+pub spells-if : (u e r : List ℕ) → 0 < length u → getD u 0 0 ≡ 58 → allDigits (take ((5 + lengthIn u) * 2) (drop 1 u)) ≡ true → (5 + lengthIn u) * 2 ≤ length (drop 1 u) → Ends e → drop (11 + lengthIn u * 2) u ≡ e ++ r → Spells u
 spells-if u e r some k digits room ends tail =
     let n = (5 + lengthIn u) * 2 in
     let a : 11 + lengthIn u * 2 ≡ 1 + n = omega arith in
@@ -195,12 +195,12 @@ pub no-mark : (u : List ℕ) → (getD u 0 0 ≡ 58 → ⊥) → 0 ≡ spelledLe
 no-mark u n = no-spelling u (λ q. n (spells-mark q))
 
 -- the digits of the length are among the record's
-pub length-digits : (u : List ℕ) → Spells u → allDigits (capitals (take 2 (drop 1 u))) ≡ true
+pub length-digits : (u : List ℕ) → Spells u → allDigits (take 2 (drop 1 u)) ≡ true
 length-digits u q =
     let n = (5 + lengthIn u) * 2 in
     let h : 2 ≤ n = omega arith in
     let e : take 2 (drop 1 u) ≡ take 2 (q .ds) = sym (take-take 2 n (drop 1 u) h) ∙ ap (take 2) (spells-field q) in
-    ap (λ (l : List ℕ). allDigits (capitals l)) e ∙ ap allDigits (capitals-take 2 (q .ds)) ∙ digits-take 2 (capitals (q .ds)) (q .digits)
+    ap allDigits e ∙ digits-take 2 (q .ds) (q .digits)
 
 -- what is to be shown of a line that spells no record may be shown of one that spells one
 pub if-spelled : (u : List ℕ) → (Spells u → 0 ≡ spelledLength u) → 0 ≡ spelledLength u
@@ -208,20 +208,20 @@ unfolding spelledLength
 if-spelled u f = by-bool (spelled (firstLine u)) (λ h. f (spells u h)) (λ h. rw h)
 
 -- two digits spell the length
-pub length-fit : (u : List ℕ) → allDigits (capitals (take 2 (drop 1 u))) ≡ true → 11 < length u → (valueOf (capitalOf (getD u 1 0)) < 16) × (valueOf (capitalOf (getD u 2 0)) < 16)
+pub length-fit : (u : List ℕ) → allDigits (take 2 (drop 1 u)) ≡ true → 11 < length u → (valueOf (getD u 1 0) < 16) × (valueOf (getD u 2 0) < 16)
 length-fit u h long =
     let l₁ : length (drop 1 u) ≡ length u - 1 = length-drop 1 u in
     let room : 2 ≤ length (drop 1 u) = omega arith in
     let two : length (take 2 (drop 1 u)) ≡ 2 = length-take-le 2 (drop 1 u) room in
-    let at : (i : ℕ) → i < 2 → valueOf (capitalOf (getD u (1 + i) 0)) < 16 = λ i k. rw (getD-take 2 (drop 1 u) i 0 k, getD-drop 1 u i 0) at (either-at (take 2 (drop 1 u)) i h (let m : i < length (take 2 (drop 1 u)) = omega arith in m)) in
+    let at : (i : ℕ) → i < 2 → valueOf (getD u (1 + i) 0) < 16 = λ i k. rw (getD-take 2 (drop 1 u) i 0 k, getD-drop 1 u i 0) at (digit-at (take 2 (drop 1 u)) i h (let m : i < length (take 2 (drop 1 u)) = omega arith in m)) in
     (at 0 (omega arith), at 1 (omega arith))
 
 -- the length as it is told before its digits are looked at
-end-is : (u : List ℕ) (n : ℕ) → n ≡ byteOf (capitalOf (getD u 1 0)) (capitalOf (getD u 2 0)) → 11 + n * 2 ≡ 11 + lengthIn u * 2
+end-is : (u : List ℕ) (n : ℕ) → n ≡ byteOf (getD u 1 0) (getD u 2 0) → 11 + n * 2 ≡ 11 + lengthIn u * 2
 unfolding lengthIn
 end-is u n e = rw e
 
-module _ (u : List ℕ) (n : ℕ) (t : (valueOf (capitalOf (getD u 1 0)) < 16) × (valueOf (capitalOf (getD u 2 0)) < 16) → n ≡ byteOf (capitalOf (getD u 1 0)) (capitalOf (getD u 2 0))) where
+module _ (u : List ℕ) (n : ℕ) (t : (valueOf (getD u 1 0) < 16) × (valueOf (getD u 2 0) < 16) → n ≡ byteOf (getD u 1 0) (getD u 2 0)) where
   -- it is right where the line spells a record, and where all is digits up to the end that it tells
   pub told-spelled : Spells u → 11 + n * 2 ≡ 11 + lengthIn u * 2
   told-spelled q =
@@ -230,13 +230,13 @@ module _ (u : List ℕ) (n : ℕ) (t : (valueOf (capitalOf (getD u 1 0)) < 16) �
       let long : 11 < length u = omega arith in
       end-is u n (t (length-fit u (length-digits u q) long))
 
-  pub told-digits : 11 + n * 2 < length u → allDigits (capitals (take (11 + n * 2 - 1) (drop 1 u))) ≡ true → 11 + n * 2 ≡ 11 + lengthIn u * 2
+  pub told-digits : 11 + n * 2 < length u → allDigits (take (11 + n * 2 - 1) (drop 1 u)) ≡ true → 11 + n * 2 ≡ 11 + lengthIn u * 2
   told-digits room h =
       let m = 11 + n * 2 - 1 in
       let two : 2 ≤ m = omega arith in
       let long : 11 < length u = omega arith in
       let e : take 2 (drop 1 u) ≡ take 2 (take m (drop 1 u)) = sym (take-take 2 m (drop 1 u) two) in
-      let d : allDigits (capitals (take 2 (drop 1 u))) ≡ true = ap (λ (l : List ℕ). allDigits (capitals l)) e ∙ ap allDigits (capitals-take 2 (take m (drop 1 u))) ∙ digits-take 2 (capitals (take m (drop 1 u))) h in
+      let d : allDigits (take 2 (drop 1 u)) ≡ true = ap allDigits e ∙ digits-take 2 (take m (drop 1 u)) h in
       end-is u n (t (length-fit u d long))
 
 -- end is the place behind the digits
@@ -252,18 +252,18 @@ module _ (u : List ℕ) (end : ℕ) (ends : end ≡ 11 + lengthIn u * 2) where
   field : end - 1 ≡ (5 + lengthIn u) * 2
   field = omega arith
 
-  pub no-digits : allDigits (capitals (take (end - 1) (drop 1 u))) ≡ false → 0 ≡ spelledLength u
+  pub no-digits : allDigits (take (end - 1) (drop 1 u)) ≡ false → 0 ≡ spelledLength u
   no-digits e =
       no-spelling u
-      (λ q. true≢false (sym (q .digits) ∙ ap (λ (l : List ℕ). allDigits (capitals l)) (sym (spells-field q) ∙ ap (λ (n : ℕ). take n (drop 1 u)) (sym field)) ∙ e))
+      (λ q. true≢false (sym (q .digits) ∙ ap allDigits (sym (spells-field q) ∙ ap (λ (n : ℕ). take n (drop 1 u)) (sym field)) ∙ e))
 
-  module _ (room : end < length u) (k : getD u 0 0 ≡ 58) (digits : allDigits (capitals (take (end - 1) (drop 1 u))) ≡ true) where
+  module _ (room : end < length u) (k : getD u 0 0 ≡ 58) (digits : allDigits (take (end - 1) (drop 1 u)) ≡ true) where
     here : (e r : List ℕ) → Ends e → drop end u ≡ e ++ r → Spells u
     here e r w t =
         let some : 0 < length u = omega arith in
         let l₁ : length (drop 1 u) ≡ length u - 1 = length-drop 1 u in
         let fit : (5 + lengthIn u) * 2 ≤ length (drop 1 u) = omega arith in
-        let d : allDigits (capitals (take ((5 + lengthIn u) * 2) (drop 1 u))) ≡ true = ap (λ (n : ℕ). allDigits (capitals (take n (drop 1 u)))) (sym field) ∙ digits in
+        let d : allDigits (take ((5 + lengthIn u) * 2) (drop 1 u)) ≡ true = ap (λ (n : ℕ). allDigits (take n (drop 1 u))) (sym field) ∙ digits in
         spells-if u e r some k d fit w (ap (λ (n : ℕ). drop n u) (sym ends) ∙ t)
 
     line-length : (e r : List ℕ) → Ends e → drop end u ≡ e ++ r → spelledLength u ≡ end + length e

@@ -13,19 +13,14 @@ use Rattle.laws.specs.Lists.{allBytes}
 use Rattle.laws.proofs.Lists.{bytes-append}
 use Rattle.laws.specs.Lines.{firstLine, linesOf}
 use Rattle.laws.proofs.Lines.{lines-first}
-use Rattle.hex.specs.Hex.{byteOf, allDigits, capitalOf, capitals, bytesOf, hexOf}
-use Rattle.hex.proofs.OneDigit.{capital-digit}
-use Rattle.hex.proofs.Either.{capitals-digits}
-use Rattle.hex.proofs.Fields.{hex-length, bytes-hex, digits-hex, byte-of, digit-at}
+use Rattle.hex.specs.Hex.{hexOf}
+use Rattle.hex.proofs.Fields.{hex-length, bytes-hex, digits-hex, byte-of}
 use Rattle.record.specs.Record.{lengthIn, spelled, recordIn, lengthOf, offsetOf, typeOf, dataOf, sumOf, suits, sound, goodRecord, summed, recordOf, recordLine}
 use Rattle.record.proofs.Spelling.{Spells, length-in, spells-first, spells-record, spells-spelled}
 use Rattle.record.proofs.Writing.{record-length-of}
 
 -- a record of bytes, as long as it says
 module _ (r : List ℕ) (bytes : allBytes r ≡ true) (whole : length r ≡ 5 + lengthOf r) where
-  capital-field : capitals (hexOf r) ≡ hexOf r
-  capital-field = capitals-digits (hexOf r) (digits-hex r)
-
   front : (s : List ℕ) → recordLine r ++ s ≡ 58 ∷ (hexOf r ++ ((10 ∷ []) ++ s))
   unfolding recordLine
   front s = ap (λ (l : List ℕ). 58 ∷ l) (append-assoc (hexOf r) (10 ∷ []) s)
@@ -36,10 +31,8 @@ module _ (r : List ℕ) (bytes : allBytes r ≡ true) (whole : length r ≡ 5 + 
       let l = hex-length r in
       let two : 2 ≤ length (hexOf r) = omega arith in
       let half : 0 < length (hexOf r) / 2 = omega arith in
-      let d : (i : ℕ) → i < 2 → capitalOf (getD (hexOf r) i 0) ≡ getD (hexOf r) i 0 = λ i k. capital-digit (getD (hexOf r) i 0) (digit-at (hexOf r) i (digits-hex r) (let h : i < length (hexOf r) = omega arith in h)) in
       ap lengthIn (front s)
       ∙ length-in (hexOf r) ((10 ∷ []) ++ s) two
-      ∙ ap₂ byteOf (d 0 (omega arith)) (d 1 (omega arith))
       ∙ byte-of (hexOf r) 0 half
       ∙ ap (λ (l : List ℕ). getD l 0 0) (bytes-hex r bytes)
 
@@ -48,7 +41,7 @@ module _ (r : List ℕ) (bytes : allBytes r ≡ true) (whole : length r ≡ 5 + 
       let l = hex-length r in
       let e = length-there s in
       let t : length (hexOf r) ≡ (5 + lengthIn (recordLine r ++ s)) * 2 = omega arith in
-      record { ds = hexOf r; e = 10 ∷ []; r = s; digits = ap allDigits capital-field ∙ digits-hex r; twice = t; ends = inl refl; is = front s }
+      record { ds = hexOf r; e = 10 ∷ []; r = s; digits = digits-hex r; twice = t; ends = inl refl; is = front s }
 
   pub written-first : (s : List ℕ) → firstLine (recordLine r ++ s) ≡ recordLine r
   unfolding recordLine spells-written
@@ -60,7 +53,7 @@ module _ (r : List ℕ) (bytes : allBytes r ≡ true) (whole : length r ≡ 5 + 
 
   pub written-record : recordIn (recordLine r) ≡ r
   unfolding spells-written
-  written-record = ap recordIn (sym (written-first [])) ∙ spells-record (spells-written []) ∙ ap bytesOf capital-field ∙ bytes-hex r bytes
+  written-record = ap recordIn (sym (written-first [])) ∙ spells-record (spells-written []) ∙ bytes-hex r bytes
 
   pub written-formed : sound r ≡ true → goodRecord (recordLine r) ≡ true
   unfolding goodRecord

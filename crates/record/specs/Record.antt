@@ -5,7 +5,8 @@ use Prim.Native.Nat.{ℕ, _+_, _-_, _*_, _/_, _%_}
 use lib.Dec.{eqb}
 use lib.ListN.{length, take, drop, getD}
 use Rattle.laws.specs.Lists.{same}
-use Rattle.hex.specs.Hex.{byteOf, allDigits, capitalOf, capitals, bytesOf, hexOf}
+use Rattle.digit.specs.Digit.{byteOf}
+use Rattle.hex.specs.Hex.{allDigits, bytesOf, hexOf}
 
 -- the record mark, ':'
 abbrev pub mark : ℕ
@@ -17,7 +18,7 @@ frameBytes = 5
 
 -- the length field of a line, the two digits behind the mark: how many data bytes its record has
 unfoldable pub lengthIn : List ℕ → ℕ
-lengthIn l = byteOf (capitalOf (getD l 1 0)) (capitalOf (getD l 2 0))
+lengthIn l = byteOf (getD l 1 0) (getD l 2 0)
 
 -- the digits of a line's record, two a byte
 unfoldable pub digitsIn : List ℕ → List ℕ
@@ -31,11 +32,11 @@ ended l =
 
 -- a line spells a record: the mark, as many digits as its length says, "in either case", and its end
 unfoldable pub spelled : List ℕ → Bool
-spelled l = (eqb (getD l 0 0) mark && allDigits (capitals (digitsIn l))) && ended l
+spelled l = (eqb (getD l 0 0) mark && allDigits (digitsIn l)) && ended l
 
 -- the record of a line: its bytes
 unfoldable pub recordIn : List ℕ → List ℕ
-recordIn l = bytesOf (capitals (digitsIn l))
+recordIn l = bytesOf (digitsIn l)
 
 -- a record's fields: length
 unfoldable pub lengthOf : List ℕ → ℕ

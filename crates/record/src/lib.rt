@@ -66,11 +66,11 @@ fn spelled_length(rest: &[u8]) -> usize
         return 0;
     }
     // whether these are digits is seen with all others, once it is known where they end
-    let end = SHORTEST + hex::either_told(rest[1], rest[2]) * 2;
+    let end = SHORTEST + digit::told(rest[1], rest[2]) * 2;
     if rest.len() <= end {
         return 0;
     }
-    if !hex::either_digits(&rest[1..end]) {
+    if !hex::digits(&rest[1..end]) {
         return 0;
     }
     line_end(rest, end)
@@ -138,7 +138,7 @@ pub fn read(rest: &[u8], out: &mut [u8]) -> usize
     }
     // beside the digits there are two bytes, the mark and LF, or three with CR
     let count = (length - 2) / 2;
-    hex::either_decode(&rest[1..1 + count * 2], out, 0);
+    hex::decode(&rest[1..1 + count * 2], out, 0);
     if sound(&out[0..count]) { length } else { 0 }
 }
 

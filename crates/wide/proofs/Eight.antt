@@ -10,8 +10,9 @@ use lib.Seq.{drop-cons}
 use lib.Pow.{pow-pos, pow-mono, split, shr-shr, mod-mod-pow, ones-lt}
 use lib.Bits.{bitAnd, and-block, and-mask}
 use Rattle.wide.specs.Wide.{joinedOf}
-use Rattle.hex.specs.Hex.{valueOf, byteOf, allDigits, bytesOf}
-use Rattle.hex.proofs.OneDigit.{half-value}
+use Rattle.digit.specs.Digit.{valueOf, byteOf}
+use Rattle.digit.proofs.Values.{half-value}
+use Rattle.hex.specs.Hex.{allDigits, bytesOf}
 use Rattle.hex.proofs.Fields.{digits-cons}
 
 -- the number of a field from place i on: its lowest byte, and the others

@@ -5,7 +5,8 @@ ghost use mathlib.Core.Bool.{true};
 ghost use mathlib.Core.List.{map};
 ghost use Prim.Native.Nat.{_+_, _*_};
 ghost use lib.ListN.{length};
-ghost use Rattle.hex.specs.Hex.{valueOf, allDigits, bytesOf};
+ghost use Rattle.digit.specs.Digit.{valueOf};
+ghost use Rattle.hex.specs.Hex.{allDigits, bytesOf};
 ghost use Rattle.wide.specs.Wide.{joinedOf};
 
 // Eight bytes as one number, the first the lowest.

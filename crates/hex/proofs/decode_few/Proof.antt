@@ -1,7 +1,7 @@
 -- `hex::decode_few` meets its contract. Assumes nothing.
 use native.Mathlib.Omega.{arith}
-use Rattle.hex.proofs.Either.{either-at, either-read-turn, either-read-end}
-use Rattle.hex.specs.Hex.{capitals, bytesOf}
+use Rattle.hex.proofs.Fields.{digit-at, read-turn, read-end}
+use Rattle.hex.specs.Hex.{bytesOf}
 use lib.Seq.{sets}
 use lib.ListN.{length, drop, length-set}
 use native.Mathlib.Nat.{add-zero}
@@ -11,7 +11,7 @@ use Rattle.hex.proofs.decode_few.Statement.{statement}
 use Rattle.hex.proofs.decode_few.Tie as tie
 
 abbrev Inv-loop : tie.InvT-loop
-Inv-loop field out₀ at count i₀ out i = (sets out (at + i) (drop i (bytesOf (capitals field))) ≡ sets out₀ at (bytesOf (capitals field))) × (length out ≡ length out₀)
+Inv-loop field out₀ at count i₀ out i = (sets out (at + i) (drop i (bytesOf field)) ≡ sets out₀ at (bytesOf field)) × (length out ≡ length out₀)
 
 abbrev μ-loop : tie.MeasureT-loop
 μ-loop field out₀ at count i₀ out i = count - i
@@ -19,28 +19,28 @@ abbrev μ-loop : tie.MeasureT-loop
 loop-holds : tie.Need-loop-holds Inv-loop μ-loop
 loop-holds c = (rw add-zero, refl)
 
-mul-either-byte : tie.Need-mul-either-byte Inv-loop μ-loop
-mul-either-byte c = omega arith
+mul-byte : tie.Need-mul-byte Inv-loop μ-loop
+mul-byte c = omega arith
 
-shared-slice-read-either-byte : tie.Need-shared-slice-read-either-byte Inv-loop μ-loop
-shared-slice-read-either-byte c = omega arith
+shared-slice-read-byte : tie.Need-shared-slice-read-byte Inv-loop μ-loop
+shared-slice-read-byte c = omega arith
 
-mul-either-byte-2 : tie.Need-mul-either-byte-2 Inv-loop μ-loop
-mul-either-byte-2 c = omega arith
+mul-byte-2 : tie.Need-mul-byte-2 Inv-loop μ-loop
+mul-byte-2 c = omega arith
 
-add-either-byte : tie.Need-add-either-byte Inv-loop μ-loop
-add-either-byte c = omega arith
+add-byte : tie.Need-add-byte Inv-loop μ-loop
+add-byte c = omega arith
 
-shared-slice-read-either-byte-2 : tie.Need-shared-slice-read-either-byte-2 Inv-loop μ-loop
-shared-slice-read-either-byte-2 c = omega arith
+shared-slice-read-byte-2 : tie.Need-shared-slice-read-byte-2 Inv-loop μ-loop
+shared-slice-read-byte-2 c = omega arith
 
-either-byte-requires : tie.Need-either-byte-requires Inv-loop μ-loop
-either-byte-requires c κs =
+byte-requires : tie.Need-byte-requires Inv-loop μ-loop
+byte-requires c κs =
     let l = c .before .before .before .loop in
     let s = c .before .before .before .before .before .before in
     let a : l .i * 2 < length (s .args .field .now) = omega arith in
     let b : l .i * 2 + 1 < length (s .args .field .now) = omega arith in
-    search (either-at (s .args .field .now) _ (s .pre .1) a, either-at (s .args .field .now) _ (s .pre .1) b)
+    search (digit-at (s .args .field .now) _ (s .pre .1) a, digit-at (s .args .field .now) _ (s .pre .1) b)
 
 add-out : tie.Need-add-out Inv-loop μ-loop
 add-out c = omega arith
@@ -57,13 +57,13 @@ loop-less c = omega arith
 loop-again : tie.Need-loop-again Inv-loop μ-loop
 loop-again c =
     let l = c .before .before .before .before .loop in
-    (sym (either-read-turn _ _ _ _ _ (c .before .before .before .loop-test .taken) (c .either-byte .ensures)) ∙ l .inv .0, simp length-set (l .inv .1))
+    (sym (read-turn _ _ _ _ _ (c .before .before .before .loop-test .taken) (c .byte .ensures)) ∙ l .inv .0, simp length-set (l .inv .1))
 
 same-length : tie.Need-same-length Inv-loop μ-loop
 same-length c = c .before .loop .inv .1
 
 returns : tie.Need-returns Inv-loop μ-loop
-returns c = either-read-end _ _ _ _ _ (c .loop-test .left) (c .before .loop .inv .0) (c .before .before .before .before .pre .0)
+returns c = read-end _ _ _ _ _ (c .loop-test .left) (c .before .loop .inv .0) (c .before .before .before .before .pre .0)
 
 pub decode-few-spec : {M : Type 1} → statement M
 decode-few-spec =
@@ -72,12 +72,12 @@ decode-few-spec =
     Inv-loop
     μ-loop
     loop-holds
-    mul-either-byte
-    shared-slice-read-either-byte
-    mul-either-byte-2
-    add-either-byte
-    shared-slice-read-either-byte-2
-    either-byte-requires
+    mul-byte
+    shared-slice-read-byte
+    mul-byte-2
+    add-byte
+    shared-slice-read-byte-2
+    byte-requires
     add-out
     slice-write-out
     add-i

@@ -23,8 +23,8 @@ loop-holds c = (rw add-zero, refl)
 shared-slice-read-x : tie.Need-shared-slice-read-x Inv-loop μ-loop
 shared-slice-read-x c = omega arith
 
-digit-requires : tie.Need-digit-requires Inv-loop μ-loop
-digit-requires c κs = search needs
+of-requires : tie.Need-of-requires Inv-loop μ-loop
+of-requires c κs = search needs
 
 mul-out : tie.Need-mul-out Inv-loop μ-loop
 mul-out c = omega arith
@@ -35,8 +35,8 @@ add-out c = omega arith
 slice-write-out : tie.Need-slice-write-out Inv-loop μ-loop
 slice-write-out c = omega arith
 
-digit-requires-2 : tie.Need-digit-requires-2 Inv-loop μ-loop
-digit-requires-2 c κs = search needs
+of-requires-2 : tie.Need-of-requires-2 Inv-loop μ-loop
+of-requires-2 c κs = search needs
 
 mul-out-2 : tie.Need-mul-out-2 Inv-loop μ-loop
 mul-out-2 c = omega arith
@@ -59,7 +59,7 @@ loop-less c = omega arith
 loop-again : tie.Need-loop-again Inv-loop μ-loop
 loop-again c =
     let l = c .before .before .before .before .loop in
-    (sym (spell-turn _ _ _ _ _ _ (c .before .before .before .loop-test .taken) (c .before .digit .ensures) (c .digit2 .ensures)) ∙ l .inv .0, simp length-set (l .inv .1))
+    (sym (spell-turn _ _ _ _ _ _ (c .before .before .before .loop-test .taken) (c .before .of .ensures) (c .of2 .ensures)) ∙ l .inv .0, simp length-set (l .inv .1))
 
 same-length : tie.Need-same-length Inv-loop μ-loop
 same-length c = c .before .loop .inv .1
@@ -75,11 +75,11 @@ encode-spec =
     μ-loop
     loop-holds
     shared-slice-read-x
-    digit-requires
+    of-requires
     mul-out
     add-out
     slice-write-out
-    digit-requires-2
+    of-requires-2
     mul-out-2
     add-out-2
     add-out-3

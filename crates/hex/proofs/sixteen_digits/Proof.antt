@@ -1,7 +1,7 @@
 -- `hex::sixteen_digits` meets its contract. Assumes nothing.
 use native.Mathlib.Omega.{arith}
-use Rattle.hex.proofs.Either.{gather-turn, gather-end}
-use Rattle.hex.specs.Hex.{allDigits, capitals}
+use Rattle.hex.proofs.Looking.{gather-turn, gather-end}
+use Rattle.hex.specs.Hex.{allDigits}
 use borrow.Author.Needs.{needs}
 use lib.ListN.{length, drop}
 use Prim.Native.Nat.{_-_, _≤_, _<_}
@@ -11,7 +11,7 @@ use Rattle.hex.proofs.sixteen_digits.Statement.{statement}
 use Rattle.hex.proofs.sixteen_digits.Tie as tie
 
 abbrev Inv-loop : tie.InvT-loop
-Inv-loop field all₀ i₀ all i = (all && allDigits (drop i (capitals field))) ≡ allDigits (capitals field)
+Inv-loop field all₀ i₀ all i = (all && allDigits (drop i field)) ≡ allDigits field
 
 abbrev μ-loop : tie.MeasureT-loop
 μ-loop field all₀ i₀ all i = 16 - i
@@ -19,11 +19,11 @@ abbrev μ-loop : tie.MeasureT-loop
 loop-holds : tie.Need-loop-holds Inv-loop μ-loop
 loop-holds c = refl
 
-shared-slice-read-either-digit : tie.Need-shared-slice-read-either-digit Inv-loop μ-loop
-shared-slice-read-either-digit c = omega arith
+shared-slice-read-is-digit : tie.Need-shared-slice-read-is-digit Inv-loop μ-loop
+shared-slice-read-is-digit c = omega arith
 
-either-digit-requires : tie.Need-either-digit-requires Inv-loop μ-loop
-either-digit-requires c κs = search needs
+is-digit-requires : tie.Need-is-digit-requires Inv-loop μ-loop
+is-digit-requires c κs = search needs
 
 add-i : tie.Need-add-i Inv-loop μ-loop
 add-i c = omega arith
@@ -36,7 +36,7 @@ loop-again c =
     let l = c .before .before .before .loop in
     let s = c .before .before .before .before .before in
     let more : l .i < length (s .args .field .now) = omega arith in
-    sym (gather-turn _ _ _ more (c .either-digit .ensures) (l .all)) ∙ l .inv
+    sym (gather-turn _ _ _ more (c .is-digit .ensures) (l .all)) ∙ l .inv
 
 returns : tie.Need-returns Inv-loop μ-loop
 returns c =
@@ -52,8 +52,8 @@ sixteen-digits-spec =
     Inv-loop
     μ-loop
     loop-holds
-    shared-slice-read-either-digit
-    either-digit-requires
+    shared-slice-read-is-digit
+    is-digit-requires
     add-i
     loop-less
     loop-again

@@ -25,23 +25,23 @@ returns c = read-none _ _ _ (c .before .spelled-length .ensures) (c .if1 .taken)
 sub-count : tie.Need-sub-count
 sub-count c = let n = count c in omega arith
 
-mul-either-decode : tie.Need-mul-either-decode
-mul-either-decode c = search needs
+mul-decode : tie.Need-mul-decode
+mul-decode c = search needs
 
-add-either-decode : tie.Need-add-either-decode
-add-either-decode c = search needs
+add-decode : tie.Need-add-decode
+add-decode c = search needs
 
-sub-either-decode : tie.Need-sub-either-decode
-sub-either-decode c = search needs
+sub-decode : tie.Need-sub-decode
+sub-decode c = search needs
 
-part-either-decode-start : tie.Need-part-either-decode-start
-part-either-decode-start c = search needs
+part-decode-start : tie.Need-part-decode-start
+part-decode-start c = search needs
 
-part-either-decode-end : tie.Need-part-either-decode-end
-part-either-decode-end c = let z = spells-size (line c) in let n = count c in omega arith
+part-decode-end : tie.Need-part-decode-end
+part-decode-end c = let z = spells-size (line c) in let n = count c in omega arith
 
-either-decode-requires : tie.Need-either-decode-requires
-either-decode-requires c κs =
+decode-requires : tie.Need-decode-requires
+decode-requires c κs =
     let d = c .before .before in
     let f = field-length (line d) _ (count d) in
     let m = length-small (line d) in
@@ -67,7 +67,7 @@ returns-2 : tie.Need-returns-2
 returns-2 c =
     let d = c .before .before .before .before .before .before .before .before .before in
     let q = line d in
-    let laid = c .before .before .before .before .before .before .either-decode .ensures in
+    let laid = c .before .before .before .before .before .before .decode .ensures in
     let s = sym (ap sound (record-front q _ (count d) _ _ laid)) ∙ sym (c .before .sound .ensures) ∙ c .if2 .taken in
     (read-good q _ (d .before .spelled-length .ensures) s, record-laid q _ (count d) _ _ laid)
 
@@ -78,7 +78,7 @@ returns-3 : tie.Need-returns-3
 returns-3 c =
     let d = c .before .before .before .before .before .before .before .before .before in
     let q = line d in
-    let laid = c .before .before .before .before .before .before .either-decode .ensures in
+    let laid = c .before .before .before .before .before .before .decode .ensures in
     let s = sym (ap sound (record-front q _ (count d) _ _ laid)) ∙ sym (c .before .sound .ensures) ∙ c .if2 .left in
     (read-bad q s, record-laid q _ (count d) _ _ laid)
 
@@ -89,12 +89,12 @@ read-spec =
     spelled-length-requires
     returns
     sub-count
-    mul-either-decode
-    add-either-decode
-    sub-either-decode
-    part-either-decode-start
-    part-either-decode-end
-    either-decode-requires
+    mul-decode
+    add-decode
+    sub-decode
+    part-decode-start
+    part-decode-end
+    decode-requires
     sub-sound
     part-sound-start
     part-sound-end

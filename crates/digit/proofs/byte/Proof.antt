@@ -1,8 +1,8 @@
--- `hex::either_byte` meets its contract. Assumes nothing.
-use Rattle.hex.specs.Hex.{byteOf}
+-- `digit::byte` meets its contract. Assumes nothing.
+use Rattle.digit.specs.Digit.{byteOf}
 use borrow.Author.Needs.{needs}
-use Rattle.hex.proofs.either_byte.Statement.{statement}
-use Rattle.hex.proofs.either_byte.Tie as tie
+use Rattle.digit.proofs.byte.Statement.{statement}
+use Rattle.digit.proofs.byte.Tie as tie
 
 nibble-requires : tie.Need-nibble-requires
 nibble-requires c κs = search needs
@@ -20,5 +20,5 @@ returns : tie.Need-returns
 unfolding byteOf
 returns c = simp (c .nibble2 .ensures .0, c .before .nibble .ensures .0)
 
-pub either-byte-spec : {M : Type 1} → statement M
-either-byte-spec = tie.close (tie.spec nibble-requires mul-result nibble-requires-2 add-result returns)
+pub byte-spec : {M : Type 1} → statement M
+byte-spec = tie.close (tie.spec nibble-requires mul-result nibble-requires-2 add-result returns)

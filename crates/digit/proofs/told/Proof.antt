@@ -1,11 +1,11 @@
--- `hex::either_told` meets its contract. Assumes nothing.
+-- `digit::told` meets its contract. Assumes nothing.
 use native.Mathlib.Omega.{arith}
-use Rattle.hex.specs.Hex.{byteOf}
+use Rattle.digit.specs.Digit.{byteOf}
 use mathlib.Core.Path.{ap₂}
 use Prim.Native.Nat.{ℕ, _+_, _*_}
 use borrow.Author.Needs.{needs}
-use Rattle.hex.proofs.either_told.Statement.{statement}
-use Rattle.hex.proofs.either_told.Tie as tie
+use Rattle.digit.proofs.told.Statement.{statement}
+use Rattle.digit.proofs.told.Tie as tie
 
 half-requires : tie.Need-half-requires
 half-requires c κs = search needs
@@ -29,8 +29,8 @@ returns : tie.Need-returns
 unfolding byteOf
 returns c = (omega arith, λ f. ap₂ (λ (x : ℕ) (y : ℕ). x * 16 + y) (c .before .half .ensures .1 (f .0)) (c .half2 .ensures .1 (f .1)))
 
-pub either-told-spec : {M : Type 1} → statement M
-either-told-spec =
+pub told-spec : {M : Type 1} → statement M
+told-spec =
     tie.close
     (tie.spec
     half-requires

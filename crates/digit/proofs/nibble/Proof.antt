@@ -1,8 +1,8 @@
--- `hex::nibble` meets its contract. Assumes nothing.
+-- `digit::nibble` meets its contract. Assumes nothing.
 use native.Mathlib.Omega.{arith}
 use borrow.Author.Needs.{needs}
-use Rattle.hex.proofs.nibble.Statement.{statement}
-use Rattle.hex.proofs.nibble.Tie as tie
+use Rattle.digit.proofs.nibble.Statement.{statement}
+use Rattle.digit.proofs.nibble.Tie as tie
 
 half-requires : tie.Need-half-requires
 half-requires c κs = search needs
