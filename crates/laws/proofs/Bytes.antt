@@ -1,12 +1,12 @@
 -- Laws of `put` and `filled`: one turn of a loop that stores, its end, and lengths. Assumes nothing.
-use mathlib.Core.Path.{_≡_, ap, _∙_, sym}
-use mathlib.Core.List.{List, [], _++_, append-nil}
-use Prim.Native.Nat.{ℕ, suc, _+_, _-_, _≤_, _<_}
+use mathlib.Core.Path.{_≡_, refl, ap, _∙_, sym}
+use mathlib.Core.List.{List, [], _∷_, _++_, append-nil, append-assoc}
+use Prim.Native.Nat.{ℕ, zero, suc, _+_, _-_, _≤_, _<_}
 use native.Mathlib.Omega.{arith}
 use native.Mathlib.Nat.{le-refl, add-assoc, min-le-left}
 use native.Mathlib.Numerals.{add-one}
-use lib.ListN.{length, take, drop, getD, set, replicate, length-append, length-take, length-drop, length-replicate, drop-of-length-le}
-use lib.Seq.{drop-cons, sets, sets-eq, length-sets, take-all, take-append-seam, drop-append-add}
+use lib.ListN.{length, take, drop, getD, set, replicate, length-append, length-take, length-drop, length-replicate, drop-of-length-le, take-append-drop}
+use lib.Seq.{drop-cons, sets, sets-eq, length-sets, take-all, take-append-seam, drop-append-add, drop-drop}
 use Rattle.laws.specs.Bytes.{put, filled}
 
 -- one store a byte, from place i on (`sets` of the kit), is `put`
@@ -79,3 +79,17 @@ filled-span from count v m =
 -- the front of a list is no longer than asked for
 pub take-at-most : (n : ℕ) (l : List ℕ) → length (take n l) ≤ n
 take-at-most n l = rw length-take (min-le-left n (length l))
+
+-- a part of a list, laid over itself, changes nothing
+part-rest : (n : ℕ) (l : List ℕ) → take n l ++ drop (length (take n l)) l ≡ l
+part-rest zero l = refl
+part-rest (suc n) [] = refl
+part-rest (suc n) (x ∷ l) = ap (λ (r : List ℕ). x ∷ r) (part-rest n l)
+
+pub put-own : (at n : ℕ) (m : List ℕ) → put at (take n (drop at m)) m ≡ m
+unfolding put
+put-own at n m =
+    let xs = take n (drop at m) in
+    append-assoc (take at m) xs (drop (at + length xs) m)
+    ∙ ap (λ (l : List ℕ). take at m ++ l) (ap (λ (l : List ℕ). xs ++ l) (sym (drop-drop (length xs) at m)) ∙ part-rest n (drop at m))
+    ∙ take-append-drop at m

@@ -8,7 +8,8 @@ use borrow.Author.Tests.{lt-ltb, le-ltb}
 use Rattle.laws.proofs.Split.{by-lt}
 use Rattle.request.specs.Setup.{setupOf, dataLength}
 use Rattle.request.specs.declared.Setup.{Setup}
-use Rattle.hex.specs.Hex.{byteOf, bytesOf}
+use Rattle.digit.specs.Digit.{byteOf}
+use Rattle.hex.specs.Hex.{bytesOf}
 use Rattle.hex.proofs.Fields.{byte-of}
 
 -- the byte and the word that the digits from place i on spell

@@ -2,19 +2,16 @@
 use mathlib.Core.Path.{_≡_, refl, ap, _∙_}
 use mathlib.Core.Bool.{true}
 use mathlib.Core.List.{List, [], _∷_, _++_}
-use Prim.Native.Nat.{ℕ, _≤_}
-use native.Mathlib.Omega.{arith}
-use lib.ListN.{getD}
+use Prim.Native.Nat.{ℕ}
 use Rattle.laws.specs.Lines.{firstLine}
 use Rattle.laws.proofs.Lines.{first-past}
 use Rattle.hex.specs.Hex.{allDigits}
-use Rattle.hex.proofs.OneDigit.{digit-above}
-use Rattle.hex.proofs.Fields.{digit-at}
+use Rattle.hex.proofs.Fields.{digits-no-end}
 use Rattle.line.proofs.Spelling.{spelled}
 
 -- digits do not end a line
 first-digits : (ds s : List ℕ) → allDigits ds ≡ true → firstLine (ds ++ s) ≡ ds ++ firstLine s
-first-digits ds s h = first-past ds s (λ i k e. let a : 48 ≤ getD ds i 0 = digit-above _ (digit-at ds i h k) in omega arith)
+first-digits ds s h = first-past ds s (digits-no-end ds h)
 
 pub first-spelled : (a b r : List ℕ) → allDigits a ≡ true → allDigits b ≡ true → firstLine (spelled a b r) ≡ spelled a b []
 unfolding firstLine

@@ -13,27 +13,34 @@ use Rattle.request.specs.Setup.{setupOf, dataLength, fitsOf}
 use Rattle.request.proofs.Lengths.{fits-eight, fits-data}
 use Rattle.hex.specs.Hex.{hexOf, bytesOf, allDigits}
 use Rattle.hex.proofs.Fields.{hex-length, bytes-are, digits-hex}
+use Rattle.hex.proofs.Capitals.{capitals-length, digits-of-capitals}
 use Rattle.laws.specs.Lists.{same, allBytes}
 use Rattle.line.specs.Event.{Event, attach, request, fits, lineOf, inBytes}
 use Rattle.laws.specs.Lines.{firstLine}
 use Rattle.laws.proofs.Lines.{first-rest, first-kind}
-use Rattle.line.specs.Line.{eventOf, wellSpelled}
+use Rattle.line.specs.Line.{eventOf, capitalLine, wellSpelled}
 use Rattle.line.proofs.Spelling.{Spells, spells-field, hex-spells, spelled, Spelled, spelled-here}
 use Rattle.laws.proofs.Lists.{same-refl, same-eq, bytes-append}
 use Rattle.line.proofs.FirstLine.{first-spelled}
+use Rattle.line.proofs.CapitalLine.{capital-other, capital-line-stays, event-capital, capital-spelled, Uncapital, uncapital}
 
--- a well-formed line is the line of its event, and this event fits; and what is so is well formed
+-- a well-formed line's capital spelling is the line of its event, and this event fits; and what is so is well formed
 pub formed-fits : (l : List ℕ) → wellSpelled l ≡ true → fits (eventOf l) ≡ true
 unfolding wellSpelled
-formed-fits l h = and-true (fits (eventOf l)) (same l (lineOf (eventOf l))) h .0
+formed-fits l h = and-true (fits (eventOf l)) (same (capitalLine l) (lineOf (eventOf l))) h .0
 
-pub formed-line : (l : List ℕ) → wellSpelled l ≡ true → l ≡ lineOf (eventOf l)
+pub formed-line : (l : List ℕ) → wellSpelled l ≡ true → capitalLine l ≡ lineOf (eventOf l)
 unfolding wellSpelled
-formed-line l h = same-eq l (lineOf (eventOf l)) (and-true (fits (eventOf l)) (same l (lineOf (eventOf l))) h .1)
+formed-line l h = same-eq (capitalLine l) (lineOf (eventOf l)) (and-true (fits (eventOf l)) (same (capitalLine l) (lineOf (eventOf l))) h .1)
 
-pub well-spelled : (l : List ℕ) (e : Event) → eventOf l ≡ e → fits e ≡ true → l ≡ lineOf e → wellSpelled l ≡ true
+pub well-spelled : (l : List ℕ) (e : Event) → eventOf l ≡ e → fits e ≡ true → capitalLine l ≡ lineOf e → wellSpelled l ≡ true
 unfolding wellSpelled
-well-spelled l e is f k = rw (is, f, ← k) (same-refl l)
+well-spelled l e is f k = rw (is, f, ← k) (same-refl (capitalLine l))
+
+-- a line and its capital spelling are both well formed, or neither
+pub formed-capital : (l : List ℕ) → wellSpelled (capitalLine l) ≡ wellSpelled l
+unfolding wellSpelled
+formed-capital l = rw (event-capital l, capital-line-stays l)
 
 -- the event that a line of `A` spells, and that a line of another kind spells
 pub event-attach : (l : List ℕ) → getD l 0 0 ≡ 65 → eventOf l ≡ attach
@@ -45,13 +52,15 @@ unfolding eventOf
 event-request l n = rw (ne-eqb (getD l 0 0) 65 n)
 
 -- a well-formed line of `A` has LF behind it and no more
-pub formed-attach : (l : List ℕ) → wellSpelled l ≡ true → eventOf l ≡ attach → l ≡ 65 ∷ 10 ∷ []
+pub formed-attach : (l : List ℕ) → wellSpelled l ≡ true → getD l 0 0 ≡ 65 → l ≡ 65 ∷ 10 ∷ []
 unfolding lineOf
-formed-attach l h e = formed-line l h ∙ ap lineOf e
+formed-attach l h k =
+    let n : getD l 0 0 ≡ 81 → ⊥ = λ e. omega arith in
+    sym (capital-other l n) ∙ formed-line l h ∙ ap lineOf (event-attach l k)
 
 pub attach-line-formed : wellSpelled (65 ∷ 10 ∷ []) ≡ true
 unfolding fits lineOf
-attach-line-formed = well-spelled (65 ∷ 10 ∷ []) attach (event-attach (65 ∷ 10 ∷ []) refl) refl refl
+attach-line-formed = well-spelled (65 ∷ 10 ∷ []) attach (event-attach (65 ∷ 10 ∷ []) refl) refl (capital-other (65 ∷ 10 ∷ []) (λ e. omega arith))
 
 -- a request fits that has its setup, and the data that the setup asks for
 pub fits-if : (q : List ℕ) → 8 ≤ length q → length q ≡ 8 + dataLength (setupOf q) → fitsOf q ≡ true
@@ -80,10 +89,11 @@ module _ {x y a b : List ℕ} (sx : Spells x a) (sy : Spells y b) (la : length a
       (ap₂ _++_ (ap bytesOf (f .setup) ∙ sx .bytes)
       (ap bytesOf (ap (λ (n : ℕ). take n (drop 19 (spelled x y []))) k ∙ f .body) ∙ sy .bytes))
 
-  line-spelled : spelled x y [] ≡ lineOf (request (a ++ b))
+  line-spelled : capitalLine (spelled x y []) ≡ lineOf (request (a ++ b))
   unfolding lineOf
   line-spelled =
-      ap₂ (λ (m : List ℕ) (n : List ℕ). spelled m n []) (sym (hex-spells sx)) (sym (hex-spells sy))
+      capital-spelled x y wide
+      ∙ ap₂ (λ (m : List ℕ) (n : List ℕ). spelled m n []) (sym (hex-spells sx)) (sym (hex-spells sy))
       ∙ ap₂ (λ (m : List ℕ) (n : List ℕ). spelled (hexOf m) (hexOf n) []) (sym (take-at a b 8 la)) (sym (drop-at a b 8 la))
 
   formed-spelled : fitsOf (a ++ b) ≡ true → wellSpelled (spelled x y []) ≡ true
@@ -169,7 +179,7 @@ module _ (l : List ℕ) (formed : wellSpelled l ≡ true) (other : getD l 0 0 �
   unfolding fits
   asked-fits = ap fits (sym (event-request l other)) ∙ formed-fits l formed
 
-  asked-line : l ≡ spelled (hexOf (take 8 asked)) (hexOf (drop 8 asked)) []
+  asked-line : capitalLine l ≡ spelled (hexOf (take 8 asked)) (hexOf (drop 8 asked)) []
   unfolding lineOf
   asked-line = formed-line l formed ∙ ap lineOf (event-request l other)
 
@@ -179,27 +189,24 @@ module _ (l : List ℕ) (formed : wellSpelled l ≡ true) (other : getD l 0 0 �
       let e : length (hexOf (take 8 asked)) ≡ length (take 8 asked) * 2 = hex-length (take 8 asked) in
       omega arith
 
-  asked-facts : Spelled l (hexOf (take 8 asked)) (hexOf (drop 8 asked)) []
-  asked-facts = spelled-here l (hexOf (take 8 asked)) (hexOf (drop 8 asked)) [] sixteen asked-line
+  fields : Uncapital l (hexOf (take 8 asked)) (hexOf (drop 8 asked))
+  fields = uncapital l (hexOf (take 8 asked)) (hexOf (drop 8 asked)) sixteen asked-line
 
-  data-is : data-field ≡ hexOf (drop 8 asked)
-  data-is =
-      let k : length l - 20 ≡ length (hexOf (drop 8 asked)) = let z = asked-facts .size in omega arith in
-      ap (λ (n : ℕ). take n (drop 19 l)) k ∙ asked-facts .body
+  setup-long : length setup-field ≡ 16
+  setup-long = sym (capitals-length setup-field) ∙ ap length (fields .setup) ∙ sixteen
 
   setup-spells : Spells setup-field (bytesOf setup-field)
-  setup-spells = spells-field setup-field 8 (ap allDigits (asked-facts .setup) ∙ digits-hex (take 8 asked)) (ap length (asked-facts .setup) ∙ sixteen)
+  setup-spells = spells-field setup-field 8 (sym (digits-of-capitals setup-field) ∙ ap allDigits (fields .setup) ∙ digits-hex (take 8 asked)) setup-long
 
   data-spells : Spells data-field (bytesOf data-field)
-  data-spells = spells-field data-field (length (drop 8 asked)) (ap allDigits data-is ∙ digits-hex (drop 8 asked)) (ap length data-is ∙ hex-length (drop 8 asked))
-
-  fields-line : l ≡ spelled setup-field data-field []
-  fields-line = asked-line ∙ ap₂ (λ (m : List ℕ) (n : List ℕ). spelled m n []) (sym (asked-facts .setup)) (sym data-is)
+  data-spells =
+      spells-field data-field (length (drop 8 asked)) (sym (digits-of-capitals data-field) ∙ ap allDigits (fields .body) ∙ digits-hex (drop 8 asked))
+      (sym (capitals-length data-field) ∙ ap length (fields .body) ∙ hex-length (drop 8 asked))
 
   eight : length (bytesOf setup-field) ≡ 8
   eight =
       let t = setup-spells .twice in
-      let e : length setup-field ≡ 16 = ap length (asked-facts .setup) ∙ sixteen in
+      let e = setup-long in
       omega arith
 
 pub event-bytes : (l : List ℕ) → wellSpelled l ≡ true → inBytes (eventOf l) ≡ true
@@ -230,5 +237,5 @@ asks u h n =
       fit = asked-fits l h o;
       spellsA = setup-spells l h o;
       spellsB = data-spells l h o;
-      is = sym (first-rest u) ∙ ap (λ (k : List ℕ). k ++ r) (fields-line l h o) ∙ simp append-assoc;
+      is = sym (first-rest u) ∙ ap (λ (k : List ℕ). k ++ r) (fields l h o .is) ∙ simp append-assoc;
     }

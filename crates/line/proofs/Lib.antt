@@ -1,5 +1,6 @@
 pub mod Fields
 pub mod Spelling
+pub mod CapitalLine
 pub mod FirstLine
 pub mod Formed
 pub mod LineLength

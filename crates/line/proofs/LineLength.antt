@@ -56,7 +56,7 @@ pub attaches : (u : List ℕ) → wellSpelled (firstLine u) ≡ true → getD u 
 attaches u h k =
     let l = firstLine u in
     let e : eventOf l ≡ attach = event-attach l (first-kind u ∙ k) in
-    let s : l ≡ 65 ∷ 10 ∷ [] = formed-attach l h e in
+    let s : l ≡ 65 ∷ 10 ∷ [] = formed-attach l h (first-kind u ∙ k) in
     let i : u ≡ 65 ∷ 10 ∷ drop (length l) u = sym (first-rest u) ∙ ap (λ (x : List ℕ). x ++ drop (length l) u) s in
     record { first = s; event = e; is = i ∙ ap (λ (n : ℕ). 65 ∷ 10 ∷ drop n u) (ap length s) }
 

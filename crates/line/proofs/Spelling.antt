@@ -6,7 +6,7 @@ use Prim.Native.Nat.{ℕ, suc, _+_, _*_, _/_, _%_, _≤_, _<_}
 use native.Mathlib.Omega.{arith}
 use lib.ListN.{length, take, drop, getD, length-append, take-append-drop}
 use lib.Seq.{drop-cons, drop-drop, take-at, getD-at, drop-append-add, getD-drop}
-use Rattle.hex.specs.Hex.{hexOf, bytesOf, allDigits}
+use Rattle.hex.specs.Hex.{hexOf, bytesOf, allDigits, capitals}
 use Rattle.hex.proofs.Fields.{hex-length, bytes-length, bytes-hex, digits-hex, hex-bytes}
 use Rattle.laws.specs.Lists.{allBytes}
 
@@ -24,7 +24,8 @@ spells-field ds n h e =
 pub spells-hex : (xs : List ℕ) → allBytes xs ≡ true → Spells (hexOf xs) xs
 spells-hex xs h = record { digits = digits-hex xs; bytes = bytes-hex xs h; twice = hex-length xs }
 
-pub hex-spells : {ds xs : List ℕ} → Spells ds xs → hexOf xs ≡ ds
+-- and what is written for them is the field in capitals
+pub hex-spells : {ds xs : List ℕ} → Spells ds xs → hexOf xs ≡ capitals ds
 hex-spells {ds} {xs} s =
     let e : length ds % 2 ≡ 0 = let t = s .twice in omega arith in
     ap hexOf (sym (s .bytes)) ∙ hex-bytes ds (s .digits) e

@@ -6,7 +6,8 @@ ghost use Prim.Native.Nat.{_+_, _*_, _≤_, _<_};
 ghost use lib.ListN.{length, getD};
 ghost use Rattle.laws.specs.Bytes.{put};
 ghost use Rattle.request.specs.Setup.{setupOf, dataLength};
-ghost use Rattle.hex.specs.Hex.{valueOf, byteOf, allDigits, bytesOf};
+ghost use Rattle.digit.specs.Digit.{valueOf, byteOf};
+ghost use Rattle.hex.specs.Hex.{allDigits, bytesOf};
 ghost use Rattle.line.specs.Event.{request, lineOf};
 ghost use Rattle.line.specs.Ways.{lineLength};
 
@@ -27,7 +28,7 @@ fn word(a: u8, b: u8, c: u8, d: u8) -> u16
     requires { ⌜ (valueOf a < 16) × (valueOf b < 16) × (valueOf c < 16) × (valueOf d < 16) ⌝ }
     ensures { λ r. ⌜ r ≡ byteOf a b + byteOf c d * 256 ⌝ }
 {
-    hex::byte(a, b) as u16 + hex::byte(c, d) as u16 * 256
+    digit::byte(a, b) as u16 + digit::byte(c, d) as u16 * 256
 }
 
 // How many bytes of data follow the setup that 16 digits spell. The digits of the length are read only where the kind
@@ -36,7 +37,7 @@ fn data_length(field: &[u8]) -> usize
     requires { ⌜ (length (now field) ≡ 16) × (allDigits (now field) ≡ true) ⌝ }
     ensures { λ r. ⌜ r ≡ dataLength (setupOf (bytesOf (now (field .entry)))) ⌝ }
 {
-    let kind = hex::byte(field[0], field[1]);
+    let kind = digit::byte(field[0], field[1]);
     if asking(kind, 1).data_length() == 0 {
         return 0;
     }

@@ -3,7 +3,7 @@ use mathlib.Core.Path.{ap, _∙_, sym}
 use Prim.Native.Nat.{ℕ, _<_}
 use native.Mathlib.Omega.{arith}
 use lib.ListN.{getD}
-use Rattle.hex.specs.Hex.{valueOf}
+use Rattle.digit.specs.Digit.{valueOf}
 use Rattle.hex.proofs.Fields.{digit-at}
 use Rattle.request.specs.declared.Setup.{Setup}
 use Rattle.line.proofs.Fields.{length-fields, length-none}
