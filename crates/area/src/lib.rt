@@ -94,7 +94,7 @@ fn byte_in(field: &[u8], i: usize) -> u8
     if field.len() / 2 <= i {
         return 0;
     }
-    hex::byte(field[i * 2], field[i * 2 + 1])
+    digit::byte(field[i * 2], field[i * 2 + 1])
 }
 
 // The command that a field of data spells.

@@ -1,4 +1,4 @@
--- Events and their text: each gives the other back, and the number of the first malformed line. Assumes nothing.
+-- Events and their text: a text gives its events, they give its capital spelling; the number of the first malformed line. Assumes nothing.
 use mathlib.Core.Path.{_≡_, refl, ap, ap₂, _∙_, sym}
 use mathlib.Core.Bool.{true, false, _&&_}
 use mathlib.Core.List.{List, [], _∷_, _++_}
@@ -10,8 +10,8 @@ use lib.Seq.{drop-append-seam}
 use Rattle.laws.proofs.Split.{by-bool, and-true}
 use Rattle.line.specs.Event.{Event, fits, inBytes, lineOf}
 use Rattle.laws.specs.Lines.{linesOf, firstLine}
-use Rattle.laws.proofs.Lines.{lines-first, joined, joined-lines}
-use Rattle.text.specs.Text.{proper, textOf, badFrom, firstBad, eventsIn, eventsOf}
+use Rattle.laws.proofs.Lines.{lines-first}
+use Rattle.text.specs.Text.{proper, textOf, badFrom, firstBad, eventsIn, eventsOf, capitalLines, capitalText}
 use Rattle.line.specs.Line.{wellSpelled}
 use Rattle.line.proofs.Formed.{formed-fits, formed-line, event-bytes}
 use Rattle.line.proofs.EventLine.{line-event, line-formed, line-first, line-some}
@@ -57,8 +57,8 @@ good-first l ls k h =
     (λ e. (e, rw e at h))
     (λ e. let z : suc k ≡ 0 = rw e at h in absurd (omega arith))
 
-lines-text : (ls : List (List ℕ)) (k : ℕ) → badFrom (suc k) ls ≡ 0 → textOf (eventsIn ls) ≡ joined ls
-unfolding textOf eventsIn joined
+lines-text : (ls : List (List ℕ)) (k : ℕ) → badFrom (suc k) ls ≡ 0 → textOf (eventsIn ls) ≡ capitalLines ls
+unfolding textOf eventsIn capitalLines
 lines-text [] k h = refl
 lines-text (l ∷ ls) k h =
     let p = good-first l ls k h in
@@ -71,9 +71,13 @@ lines-proper (l ∷ ls) k h =
     let p = good-first l ls k h in
     rw (formed-fits l (p .0), event-bytes l (p .0), lines-proper ls (suc k) (p .1))
 
-pub good-text : (t : List ℕ) → firstBad t ≡ 0 → textOf (eventsOf t) ≡ t
-unfolding firstBad eventsOf
-good-text t h = lines-text (linesOf t) 0 h ∙ joined-lines t
+pub good-text : (t : List ℕ) → firstBad t ≡ 0 → textOf (eventsOf t) ≡ capitalText t
+unfolding firstBad eventsOf capitalText
+good-text t h = lines-text (linesOf t) 0 h
+
+-- the text of events is its own capital spelling
+pub text-capital : (es : List Event) → proper es ≡ true → capitalText (textOf es) ≡ textOf es
+text-capital es h = sym (good-text (textOf es) (text-clean es h)) ∙ ap textOf (text-events es h)
 
 pub good-proper : (t : List ℕ) → firstBad t ≡ 0 → proper (eventsOf t) ≡ true
 unfolding firstBad eventsOf

@@ -1,10 +1,10 @@
--- The text of events, and the events of a text. Document 01, "Job text" and "Refusal numbers", row 10. Assumes nothing.
+-- The text of events, and the events of a text. Document 01, "Job text" and "Refusal numbers", row 10; document 02, CR 2. Assumes nothing.
 use mathlib.Core.Bool.{Bool, true, cond, _&&_}
 use mathlib.Core.List.{List, [], _∷_, _++_}
 use Prim.Native.Nat.{ℕ, suc}
 use Rattle.laws.specs.Lines.{linesOf}
 use Rattle.line.specs.Event.{Event, fits, inBytes, lineOf}
-use Rattle.line.specs.Line.{eventOf, wellSpelled}
+use Rattle.line.specs.Line.{eventOf, capitalLine, wellSpelled}
 
 -- "At most 60,000 bytes"
 abbrev pub limit : ℕ
@@ -37,3 +37,12 @@ eventsIn (l ∷ ls) = eventOf l ∷ eventsIn ls
 -- the events of a text
 unfoldable pub eventsOf : List ℕ → List Event
 eventsOf t = eventsIn (linesOf t)
+
+-- the capital spelling of some lines
+unfoldable pub capitalLines : List (List ℕ) → List ℕ
+capitalLines [] = []
+capitalLines (l ∷ ls) = capitalLine l ++ capitalLines ls
+
+-- CR 2: "the capital spelling of the text"
+unfoldable pub capitalText : List ℕ → List ℕ
+capitalText t = capitalLines (linesOf t)
