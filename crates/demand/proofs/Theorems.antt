@@ -9,9 +9,12 @@ use borrow.Author.Tests.{eq-eqb, ne-eqb, eqb-true, lt-ltb, le-ltb, not-false}
 use Rattle.laws.proofs.Split.{by-eq, by-lt}
 use Rattle.board.specs.Layout.{flashFirst, flashBytes}
 use Rattle.refusal.specs.declared.Refusal.{Refusal}
+use Rattle.refusal.specs.declared.Admission.{Admission}
 use Rattle.refusal.specs.declared.Admission.the-variants as admission
 use Rattle.line.specs.Event.{Event}
-use Rattle.text.specs.Text.{eventsOf}
+use Rattle.text.specs.Text.{eventsOf, capitalText}
+use Rattle.text.proofs.CapitalText.{capital-events}
+use Rattle.job.proofs.Refusals.{capital-refusals}
 use Rattle.refusal.proofs.First.{by-admission, First, first-exactly}
 use Rattle.laws.proofs.Lists.{same-refl, same-eq}
 use Rattle.verdict.specs.declared.Verdict.{Verdict}
@@ -19,8 +22,8 @@ use Rattle.verdict.specs.declared.Verdict.the-variants as verdict
 use Rattle.loader.specs.World.{World, after}
 use Rattle.demand.specs.Boards.{Fresh, failsAt}
 use Rattle.demand.specs.Verdict.{endFails, endFault, pagesEnd, wantedAt, wrongAt, OnSome, OnNone, Least, Judged}
-use Rattle.demand.specs.Checked.{checkRefusals, checkable, Checked}
-use Rattle.verdict.specs.Report.{inFields}
+use Rattle.demand.specs.Checked.{checkRefusals, checkable, Ruled, Checked}
+use Rattle.verdict.specs.Report.{Fields, inFields}
 use Rattle.demand.specs.Demand.{Works, AllWork}
 use Rattle.demand.proofs.Supply.{checkable-parts}
 use Rattle.verdict.proofs.Reading.{fields-injective}
@@ -161,3 +164,28 @@ demand-three n t image card w v x e c =
       λ is. exactly .0 (rw is at j),
       λ all. one-verdict n (eventsOf t) image card v verdict.Pass j (exactly .1 all),
     )
+
+capital-checkable : (n : ℕ) (t : List ℕ) (image card work : ℕ) → checkable n (capitalText t) image card work ≡ checkable n t image card work
+unfolding checkable
+capital-checkable n t image card work = rw (capital-refusals t)
+
+-- texts of the same events are ruled alike
+ruled-alike : (a : Admission) (n : ℕ) (t u image card w : List ℕ) (f : Fields) (x : List ℕ) → eventsOf t ≡ eventsOf u → Ruled a n t image card w f x → Ruled a n u image card w f x
+ruled-alike admission.Admitted n t u image card w f x e c = (c .0, c .1, rw e at (c .2))
+ruled-alike (admission.Refused r) n t u image card w f x e c = c
+
+-- A text and its capital spelling get the same answer, and leave the same: what the promise of `check` allows for the
+-- one, it allows for the other.
+pub same-answer : (n : ℕ) (t image card w : List ℕ) (f : Fields) (x : List ℕ) → (Checked n t image card w f x → Checked n (capitalText t) image card w f x) × (Checked n (capitalText t) image card w f x → Checked n t image card w f x)
+same-answer n t image card w f x =
+    let a = checkable n t (length image) (length card) (length w) in
+    let e : checkable n (capitalText t) (length image) (length card) (length w) ≡ a = capital-checkable n t (length image) (length card) (length w) in (
+      λ c. rw e (ruled-alike a n t (capitalText t) image card w f x (sym (capital-events t)) c),
+      λ c. ruled-alike a n (capitalText t) t image card w f x (capital-events t) (rw e at c),
+    )
+
+-- So texts with one capital spelling have one verdict: a plan in small letters passes as the plan does.
+pub one-spelling-one-answer : (n : ℕ) (t u image card w : List ℕ) (v o : Verdict) (x y : List ℕ) → capitalText t ≡ capitalText u → Checked n t image card w (inFields v) x → Checked n u image card w (inFields o) y → v ≡ o
+one-spelling-one-answer n t u image card w v o x y e a b =
+    let c = same-answer n t image card w (inFields v) x .0 a in
+    one-answer n u image card w v o x y (same-answer n u image card w (inFields v) x .1 (rw e at c)) b

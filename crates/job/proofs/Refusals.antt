@@ -8,7 +8,8 @@ use Rattle.refusal.specs.declared.Refusal.the-variants.{Text, Line}
 use Rattle.refusal.specs.declared.Admission.the-variants.{Admitted, Refused}
 use Rattle.refusal.specs.Order.{firstOf}
 use Rattle.refusal.proofs.First.{first-here, first-on, first-none, first-exactly}
-use Rattle.text.specs.Text.{limit, firstBad}
+use Rattle.text.specs.Text.{limit, firstBad, capitalText}
+use Rattle.text.proofs.CapitalText.{capital-bad, capital-text-length}
 use Rattle.job.specs.Calls.{textRefusals}
 
 module _ (t : List ℕ) where
@@ -23,3 +24,7 @@ module _ (t : List ℕ) where
 
   pub text-parts : firstOf (textRefusals t) ≡ Admitted → (length t ≤ limit) × (firstBad t ≡ 0)
   text-parts e = let none = first-exactly (textRefusals t) Admitted .0 e in (ltb-false _ _ (none .0), eqb-true _ _ (not-false _ (none .1 .0)))
+
+-- a text and its capital spelling are refused alike
+pub capital-refusals : (t : List ℕ) → textRefusals (capitalText t) ≡ textRefusals t
+capital-refusals t = rw (capital-text-length t, capital-bad t)
