@@ -11,7 +11,7 @@ fn first_strange(record: &[u8]) -> usize
 {
     let mut i = 1;
     while i < record.len() {
-        if !hex::either_digits(&record[i..i + 1]) {
+        if !hex::digits(&record[i..i + 1]) {
             return i;
         }
         i += 1;

@@ -3,7 +3,7 @@
 
 // The byte of two digits.
 pub(crate) fn pair(high: u8, low: u8) -> u8 {
-    (hex::either_told(high, low) % 256) as u8
+    (digit::told(high, low) % 256) as u8
 }
 
 pub(crate) fn count(record: &[u8]) -> u8 {

@@ -14,20 +14,20 @@ abbrev μ-loop : tie.MeasureT-loop
 loop-holds : tie.Need-loop-holds Inv-loop μ-loop
 loop-holds c = search needs
 
-add-either-digits : tie.Need-add-either-digits Inv-loop μ-loop
-add-either-digits c = search needs
+add-digits : tie.Need-add-digits Inv-loop μ-loop
+add-digits c = search needs
 
-sub-either-digits : tie.Need-sub-either-digits Inv-loop μ-loop
-sub-either-digits c = search needs
+sub-digits : tie.Need-sub-digits Inv-loop μ-loop
+sub-digits c = search needs
 
-part-either-digits-start : tie.Need-part-either-digits-start Inv-loop μ-loop
-part-either-digits-start c = search needs
+part-digits-start : tie.Need-part-digits-start Inv-loop μ-loop
+part-digits-start c = search needs
 
-part-either-digits-end : tie.Need-part-either-digits-end Inv-loop μ-loop
-part-either-digits-end c = search needs
+part-digits-end : tie.Need-part-digits-end Inv-loop μ-loop
+part-digits-end c = search needs
 
-either-digits-requires : tie.Need-either-digits-requires Inv-loop μ-loop
-either-digits-requires c κs = search needs
+digits-requires : tie.Need-digits-requires Inv-loop μ-loop
+digits-requires c κs = search needs
 
 returns : tie.Need-returns Inv-loop μ-loop
 returns c = search needs
@@ -51,11 +51,11 @@ first-strange-spec =
     Inv-loop
     μ-loop
     loop-holds
-    add-either-digits
-    sub-either-digits
-    part-either-digits-start
-    part-either-digits-end
-    either-digits-requires
+    add-digits
+    sub-digits
+    part-digits-start
+    part-digits-end
+    digits-requires
     returns
     add-i
     loop-less
