@@ -39,10 +39,16 @@ def plan(image):
     return text + command(0x21, FLASH) + download(0) + STATUS
 
 
+def small(job):
+    """A job with its hex fields in small letters. The front of a line stays a capital."""
+    return "".join(line[0] + line[1:].lower() for line in job.splitlines(keepends=True))
+
+
 def jobs():
     """Name, job text, image."""
     half = IMAGE[: 8 * PAGE]
     yield "plan", plan(IMAGE), IMAGE
+    yield "plan-small", small(plan(IMAGE)), IMAGE
     yield "plan-half", plan(half), half
     yield "erases", 900 * command(0x41), IMAGE
     yield "erases-half", 450 * command(0x41), IMAGE
@@ -80,7 +86,7 @@ def write(folder, name, files):
 
 def main(folder):
     for name, text, image in jobs():
-        assert len(text) <= 60000 and (name != "plan" or len(text) == 36078)
+        assert len(text) <= 60000 and (name not in ("plan", "plan-small") or len(text) == 36078)
         write(folder, name, {"job.txt": text.encode(), "image.bin": image, "card.bin": DEFAULT_OPTIONS})
     for name, text in hexes():
         assert text.lower().startswith(":020000040800f2") and text.split()[-1].upper() == ":00000001FF"
