@@ -32,7 +32,7 @@ fn perform(text: &[u8], board: &[u8]) {
         },
         Done::Refused(why) => refuse::say(
             why,
-            b"[The job has more than 60000 bytes. Take out lines that it does not need.|Line # of the job is malformed. Correct it: a line is A, or Q, a tab, 16 digits, a tab and the data, with as many bytes as the setup asks for, in upper case hexadecimal, and ends with LF alone.]\n",
+            b"[The job has more than 60000 bytes. Take out lines that it does not need.|Line # of the job is malformed. Correct it: a line is A, or Q, a tab, 16 digits, a tab and the data, with as many bytes as the setup asks for, in hexadecimal of either case, and ends with LF alone; A and Q are capitals.]\n",
         ),
     }
 }
