@@ -1,8 +1,8 @@
 -- What the programs that play vectors make of buffers: no rule of the paper. Assumes nothing.
-use mathlib.Core.Bool.{Bool, cond, _&&_}
+use mathlib.Core.Bool.{Bool, cond, _&&_, _||_, not}
 use mathlib.Core.List.{List, [], _∷_}
 use Prim.Native.Nat.{ℕ, zero, suc, _+_, _-_, _*_, _%_}
-use lib.Dec.{leb, ltb}
+use lib.Dec.{leb, ltb, eqb}
 use lib.ListN.{length, getD, set}
 use Rattle.laws.specs.Bytes.{put}
 use Rattle.buffer.specs.Least.{leastOf}
@@ -50,3 +50,24 @@ mixOf digest n = (digest % 4294967291 * 257 + n % 4294967291 + 1) % 4294967291
 unfoldable pub mixedOf : ℕ → List ℕ → ℕ
 mixedOf digest [] = digest
 mixedOf digest (n ∷ ns) = mixedOf (mixOf digest n) ns
+
+-- the small letter of a capital among A to F; any other byte stays
+unfoldable pub smallOf : ℕ → ℕ
+smallOf b = cond (leb 65 b && leb b 70) (b + 32) b
+
+-- the capital of a small letter among a to f; any other byte stays
+unfoldable pub capitalOf : ℕ → ℕ
+capitalOf b = cond (leb 97 b && leb b 102) (b - 32) b
+
+-- a letter at place i is small: everywhere, or in mixed letters at the odd places
+unfoldable pub smallAt : Bool → ℕ → Bool
+smallAt mixed i = not mixed || eqb (i % 2) 1
+
+-- a byte in these letters; the first one of a line stays
+unfoldable pub spelledOf : Bool → Bool → ℕ → ℕ
+spelledOf first small b = cond first b (cond small (smallOf b) (capitalOf b))
+
+-- a text from place i on: a line begins where `first` says so, and behind each LF
+unfoldable pub respelledOf : Bool → ℕ → Bool → List ℕ → List ℕ
+respelledOf mixed i first [] = []
+respelledOf mixed i first (b ∷ bs) = spelledOf first (smallAt mixed i) b ∷ respelledOf mixed (suc i) (eqb b 10) bs

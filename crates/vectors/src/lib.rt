@@ -1,9 +1,11 @@
-// What the programs that play the models' vectors make of buffers: bytes made by a rule, and digests.
+// What the programs that play the models' vectors make of buffers: bytes made by a rule, texts in other letters, and
+// digests.
 //
 // Every function takes any numbers and any buffers; what finds no room is left out.
 ghost use mathlib.Core.Path.{_≡_};
+ghost use mathlib.Core.Bool.{true};
 ghost use Prim.Native.Nat.{_+_, _-_, _*_, _<_};
-ghost use Rattle.vectors.specs.Vectors.{rampedOf, roomFor, left, repeatsOf, repeatedOf, mixOf, mixedOf};
+ghost use Rattle.vectors.specs.Vectors.{rampedOf, roomFor, left, repeatsOf, repeatedOf, mixOf, mixedOf, smallOf, capitalOf, smallAt, spelledOf, respelledOf};
 
 // Digests are below this number, the largest prime that four bytes hold.
 const MODULUS: usize = 4294967291;
@@ -100,4 +102,57 @@ pub fn digest(bytes: &[u8]) -> usize
         i += 1;
     }
     mixed
+}
+
+// The small letter of a capital among A to F; any other byte stays.
+fn small(byte: u8) -> u8
+    ensures { λ r. ⌜ r ≡ smallOf byte ⌝ }
+{
+    if (65 <= byte) & (byte <= 70) {
+        byte + 32
+    } else {
+        byte
+    }
+}
+
+// The capital of a small letter among a to f; any other byte stays.
+fn capital(byte: u8) -> u8
+    ensures { λ r. ⌜ r ≡ capitalOf byte ⌝ }
+{
+    if (97 <= byte) & (byte <= 102) {
+        byte - 32
+    } else {
+        byte
+    }
+}
+
+// Is a letter at this place small?
+fn small_at(mixed: bool, place: usize) -> bool
+    ensures { λ r. ⌜ r ≡ smallAt mixed place ⌝ }
+{
+    !mixed | (place % 2 == 1)
+}
+
+// A byte in these letters; the first one of a line stays.
+fn spelled(first: bool, is_small: bool, byte: u8) -> u8
+    ensures { λ r. ⌜ r ≡ spelledOf first «is_small» byte ⌝ }
+{
+    if first {
+        return byte;
+    }
+    if is_small { small(byte) } else { capital(byte) }
+}
+
+// A text in small letters, or in mixed ones: those of hex digits, A to F, but for the first byte of each line.
+pub fn respell(text: &mut [u8], mixed: bool)
+    ensures { λ _. ⌜ now (text .exit) ≡ respelledOf mixed 0 true (now (text .entry)) ⌝ }
+{
+    let mut first = true;
+    let mut i = 0;
+    while i < text.len() {
+        let byte = text[i];
+        text[i] = spelled(first, small_at(mixed, i), byte);
+        first = byte == 10;
+        i += 1;
+    }
 }
