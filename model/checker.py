@@ -1,7 +1,7 @@
 """A model of the job checker, for test vectors.
 
-It was written from document 01 and from nothing else, and shares no code and no table with the
-proved crates. It decides each job twice:
+It was written from document 01 and change request 2 and from nothing else, and shares no code and no
+table with the proved crates. It decides each job twice:
 
 - `Run` follows the job once for all boards: a byte of flash is a number that every board has there by
   now, or still the board's own.
@@ -41,7 +41,7 @@ def report(answer):
 
 # --- "Job text" ----------------------------------------------------------------------------------------
 
-DIGITS = frozenset(b"0123456789ABCDEF")
+DIGITS = frozenset(b"0123456789ABCDEFabcdef")
 
 
 def read_line(line):

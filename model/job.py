@@ -1,4 +1,4 @@
-"""The job text, from document 01: reader, text writer and a walk over a text.
+"""The job text, from document 01 and change request 2: reader, text writer and a walk over a text.
 
 Written from the paper alone and sharing nothing with crates/. Texts, packed lists and buffers are
 `bytes`; a call gives an Outcome, and a refusal leaves the output buffer as it was.
@@ -16,7 +16,8 @@ REQUEST, TEXT, LINE, OUTPUT = 5, 9, 10, 11
 Outcome = collections.namedtuple("Outcome", "number line count out")
 
 ATTACH_LINE = b"A"
-REQUEST_LINE = re.compile(rb"Q\t([0-9A-F]{16})\t((?:[0-9A-F]{2})*)")
+# A and Q are capitals; a hex digit has either case
+REQUEST_LINE = re.compile(rb"Q\t([0-9A-Fa-f]{16})\t((?:[0-9A-Fa-f]{2})*)")
 
 
 def data_size(setup):
