@@ -11,9 +11,13 @@ A vector is a head of 16 bytes and a body; numbers have their low byte first.
   8..11    bytes of the output buffer
   12..14   a place of the input, and 15 the byte that it then has there; a place past the input: none
 
+A text (kinds 0 and 2) is played as given, in small letters and in mixed letters (letters.py), each time from
+the same output buffer.
+
 Each call has a line: a letter and four numbers. R, W and M, reader, writer and `measure`: refusal number
 (0 where there is none), line named, bytes put out, digest of the output buffer. K, the walk: 1 where a
-malformed line ended it, events met, place where it ended, digest of the items.
+malformed line ended it, events met, place where it ended, digest of the items. After all vectors comes the
+line `vectors N`. A text that is read, written again, gives its capital spelling, or nothing is written.
 """
 
 import itertools
@@ -22,6 +26,7 @@ import random
 import sys
 
 import job
+import letters
 
 READ, WRITE, TEXT = range(3)
 NOWHERE = 0xFFFFFF
@@ -77,10 +82,19 @@ class Tape:
         if kind == WRITE:
             self.tell("W", *put_out(job.write(bytes(given), out)))
             return
-        self.tell("R", *put_out(job.read(bytes(given), out)))
+        for text in letters.spellings(bytes(given)):
+            self.play(kind, text, out)
+
+    def play(self, kind, text, out):
+        """The calls of one spelling."""
+        outcome = job.read(text, out)
+        self.tell("R", *put_out(outcome))
+        if outcome.number == 0:
+            written = job.write(outcome.out[:outcome.count], bytes(len(text)))
+            assert written.out == letters.capital(text), "read and written, a text is not its capital spelling"
         if kind == TEXT:
-            self.tell("K", *walked(bytes(given)))
-            self.tell("M", *put_out(job.measure(bytes(given))))
+            self.tell("K", *walked(text))
+            self.tell("M", *put_out(job.measure(text)))
 
     def tell(self, *fields):
         self.lines.append(" ".join(map(str, fields)))
@@ -153,9 +167,32 @@ def plain_texts(tape):
     for byte in range(256):
         tape.text(bytes((byte, 10)))
         tape.text(b"Q\tA1030000000006%c0\t\nA\n" % byte)
+        tape.text(b"Q\t2101000000000200\t0%cFF\nA\n" % byte)
     for length in range(0, 65536, 1021):
         setup = request(0x21, 1, 2, 0, 0)[:6] + length.to_bytes(2, "little")
         tape.text(b"A\nQ\t" + setup.hex().upper().encode() + b"\t0011\nA\n")
+
+
+def fields_of(event):
+    """The setup's digits and the data's."""
+    return event[:8].hex().encode(), event[8:].hex().encode()
+
+
+def both_cases(tape):
+    """Digits and their neighbours at the ends of both fields; fields in letters of their own; no small A, no small Q."""
+    for byte in b"/09:@AFG`afg":
+        for line in (b"Q\t%c104000000000000\t\n", b"Q\tA10300000000060%c\t\n",
+                     b"Q\t2101000000000200\t%c0FF\n", b"Q\t2101000000000200\tFF0%c\n"):
+            tape.text(b"A\n" + line % byte + b"A\n")
+    events = (request(0xAB, 0xCD, 0xEF01, 0xA2B3, 0xFEDC), *SHORT_JOB[1:],
+              request(0x2A, 0xBC, 0xDEF0, 0xFACE, 4, bytes.fromhex("ABCDEF9A")))
+    for setups, datas in itertools.product((bytes.lower, bytes.upper), repeat=2):
+        fields = map(fields_of, events)
+        tape.text(b"".join(b"Q\t%s\t%s\n" % (setups(setup), datas(data)) for setup, data in fields))
+    lines = [job.line_of(event) for event in SHORT_JOB]
+    for bad in (b"a\n", *(b"q" + line[1:] for line in lines[1:]), *(line.lower() for line in lines[1:])):
+        for place in range(len(lines) + 1):
+            tape.text(b"".join((*lines[:place], bad, *lines[place:])))
 
 
 def long_texts(tape):
@@ -229,6 +266,7 @@ def main(words):
     crate = pathlib.Path(words[0])
     tape = Tape()
     plain_texts(tape)
+    both_cases(tape)
     for text in damaged(text_of(SHORT_JOB)):
         tape.text(text)
     for room in range(len(packed_of(SHORT_JOB)) + 4):

@@ -51,15 +51,28 @@ fn look(kind: u8, input: &[u8]) {
     print(3, job::measure(input), b"");
 }
 
-// The calls of one vector.
-fn perform(kind: u8, input: &[u8], out: &mut [u8]) {
-    let done = call(kind, input, out);
-    print(kind as usize, done, out);
-    look(kind, input);
+// The calls of one vector, on its input in one spelling.
+fn perform(vector: Vector, input: &[u8], out: &mut [u8]) {
+    vectors::ramp(out, 0, vector.room, vector.seed, 7);
+    let done = call(vector.kind, input, out);
+    print(vector.kind as usize, done, out);
+    look(vector.kind, input);
+}
+
+// A text is played as given, in small letters and in mixed letters.
+fn play(vector: Vector, input: &mut [u8], out: &mut [u8]) {
+    perform(vector, input, out);
+    if vector.kind == head::WRITE {
+        return;
+    }
+    vectors::respell(input, false);
+    perform(vector, input, out);
+    vectors::respell(input, true);
+    perform(vector, input, out);
 }
 
 // Lends both buffers in the length that the vector asks for. What finds no room has no line.
-fn lend(vector: Vector, text: &[u8], out: &mut [u8]) {
+fn lend(vector: Vector, text: &mut [u8], out: &mut [u8]) {
     let size = vector.size;
     let room = vector.room;
     if text.len() < size {
@@ -68,15 +81,14 @@ fn lend(vector: Vector, text: &[u8], out: &mut [u8]) {
     if out.len() < room {
         return;
     }
-    perform(vector.kind, &text[0..size], &mut out[0..room]);
+    play(vector, &mut text[0..size], &mut out[0..room]);
 }
 
-// Makes the input and the buffer of a vector, and lets it happen.
+// Makes the input of a vector, and lets it happen.
 fn turn(fd: i32, vector: Vector, text: &mut [u8], out: &mut [u8]) {
     feed::load(fd, text, 0, vector.body);
     vectors::repeat(text, 0, vector.body, 0, vector.size);
     vectors::ramp(text, vector.place, 1, vector.byte, 0);
-    vectors::ramp(out, 0, vector.room, vector.seed, 7);
     lend(vector, text, out);
 }
 
