@@ -6,7 +6,7 @@
 
 VECTORS and STDOUT default to the places where the crate `replay_check` has them. `jobs.py` says what the
 file looks like. Fixed rules and fixed seeds make everything, so that two runs give the same bytes. Every
-verdict was found in two ways (`checker.py`), or nothing is written.
+verdict was found in two ways (`checker.py`), and is that of the job's three spellings, or nothing is written.
 """
 
 import collections
@@ -117,7 +117,7 @@ def write_files(answers, places):
     with open(vector_file, "wb") as file:
         file.write(b"".join(job.record() for job, _, _ in answers) + NO_MORE_JOBS)
     with open(expected, "w", newline="\n") as file:
-        file.writelines(printed(job, answer) + "\n" for job, answer, _ in answers)
+        file.writelines(line + "\n" for job, answer, _ in answers for line in printed(job, answer))
         file.write(f"jobs {len(answers)}\n")
 
 

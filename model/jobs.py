@@ -17,14 +17,16 @@ and then chunks that make up its text. Each has a head of 8 bytes: 0 kind, 2..3 
 
 Bytes of ramps are modulo 256. What is not named is 0.
 
-Each job prints the checker's report line; a refused one has a fourth field, the work area's digest after the
-call. After all jobs comes the line `jobs N`.
+Each job is judged as given, in small letters and in mixed letters (letters.py), each time with image and work
+area made anew, and prints the checker's report line each time; a refused one has a fourth field, the work
+area's digest after the call. After all jobs comes the line `jobs N`.
 """
 
 import itertools
 from collections import namedtuple
 
 import checker
+import letters
 import loader
 from loader import FLASH, OPTIONS, PAGE
 from tape import (
@@ -246,16 +248,24 @@ def work_digest(code, fill):
     return WORK_DIGESTS[code, fill]
 
 
-def judged(job):
-    """The checker's answer to a job, and the job's events."""
-    text, image = job.text(), job.image.bytes()
+def reading(job, image, text):
+    """The refusal of a job with this text, or None; the text's events."""
     refusal = checker.refusal(text, image, job.card, sized(job.work, checker.WORK_SIZE))
-    if refusal:
-        return refusal, []
-    events = checker.read_job(text)[0]
-    return checker.decide(events, image, job.card), events
+    return refusal, [] if refusal else checker.read_job(text)[0]
+
+
+def judged(job):
+    """The checker's answer to a job, and the job's events. Each spelling is read by itself and says the same."""
+    image = job.image.bytes()
+    given, *others = (reading(job, image, text) for text in letters.spellings(job.text()))
+    assert all(other == given for other in others), "the case of a digit makes a difference"
+    refusal, events = given
+    return refusal or checker.decide(events, image, job.card), events
 
 
 def printed(job, answer):
+    """The lines of a job, one for each spelling."""
     line = checker.report(answer)
-    return f"{line}\t{work_digest(job.work, job.fill)}" if isinstance(answer, checker.Refusal) else line
+    if isinstance(answer, checker.Refusal):
+        line += f"\t{work_digest(job.work, job.fill)}"
+    return [line] * letters.COUNT

@@ -1,4 +1,4 @@
-// Replays the file vectors.bin through the job checker, and prints a line for each job.
+// Replays the file vectors.bin through the job checker, and prints a line for each spelling of a job.
 //
 // model/check_vectors.py makes the file and the text that this program has to print; model/jobs.py says
 // what both mean.
@@ -53,12 +53,21 @@ fn prepare(header: &[u8], text: &[u8], image: &mut [u8], work: &mut [u8]) {
     lend(job, header, text, image, work);
 }
 
+// The text is judged as given, in small letters and in mixed letters.
+fn play(header: &[u8], text: &mut [u8], image: &mut [u8], work: &mut [u8]) {
+    prepare(header, text, image, work);
+    vectors::respell(text, false);
+    prepare(header, text, image, work);
+    vectors::respell(text, true);
+    prepare(header, text, image, work);
+}
+
 // How many jobs there were. A header that is no job's ends the file.
 fn replay(fd: i32, header: &mut [u8], text: &mut [u8], image: &mut [u8], work: &mut [u8]) -> usize {
     let mut count = 0;
     while count < feed::MOST && head::next(fd, header) {
         let size = text::read(fd, text, work);
-        prepare(header, &text[0..size], image, work);
+        play(header, &mut text[0..size], image, work);
         count += 1;
     }
     count

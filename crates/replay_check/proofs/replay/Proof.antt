@@ -21,17 +21,17 @@ next-requires c κs = search needs
 read-requires : tie.Need-read-requires Inv-loop μ-loop
 read-requires c κs = search needs
 
-sub-prepare : tie.Need-sub-prepare Inv-loop μ-loop
-sub-prepare c = search needs
+sub-play : tie.Need-sub-play Inv-loop μ-loop
+sub-play c = search needs
 
-part-prepare-start : tie.Need-part-prepare-start Inv-loop μ-loop
-part-prepare-start c = search needs
+part-play-start : tie.Need-part-play-start Inv-loop μ-loop
+part-play-start c = search needs
 
-part-prepare-end : tie.Need-part-prepare-end Inv-loop μ-loop
-part-prepare-end c = search needs
+part-play-end : tie.Need-part-play-end Inv-loop μ-loop
+part-play-end c = search needs
 
-prepare-requires : tie.Need-prepare-requires Inv-loop μ-loop
-prepare-requires c κs = search needs
+play-requires : tie.Need-play-requires Inv-loop μ-loop
+play-requires c κs = search needs
 
 add-count : tie.Need-add-count Inv-loop μ-loop
 add-count c = search needs
@@ -81,10 +81,10 @@ replay-spec =
     loop-holds
     next-requires
     read-requires
-    sub-prepare
-    part-prepare-start
-    part-prepare-end
-    prepare-requires
+    sub-play
+    part-play-start
+    part-play-end
+    play-requires
     add-count
     loop-less
     loop-again
