@@ -11,7 +11,7 @@ A vector is a head of 16 bytes and a body; numbers have their low byte first.
   8..11    bytes of the output buffer
   12..14   a place of the input, and 15 the byte that it then has there; a place past the input: none
 
-A text (kinds 0 and 2) is played as given, in small letters and in mixed letters (letters.py), each time from
+A text (kinds 0 and 2) is played as given, in mixed letters and in small letters (letters.py), each time from
 the same output buffer.
 
 Each call has a line: a letter and four numbers. R, W and M, reader, writer and `measure`: refusal number

@@ -17,7 +17,7 @@ and then chunks that make up its text. Each has a head of 8 bytes: 0 kind, 2..3 
 
 Bytes of ramps are modulo 256. What is not named is 0.
 
-Each job is judged as given, in small letters and in mixed letters (letters.py), each time with image and work
+Each job is judged as given, in mixed letters and in small letters (letters.py), each time with image and work
 area made anew, and prints the checker's report line each time; a refused one has a fourth field, the work
 area's digest after the call. After all jobs comes the line `jobs N`.
 """

@@ -2,7 +2,7 @@
 
 Respelled is each byte that is a letter of a hex digit, A to F in either case, and not the first byte of a
 line: so A and Q at the front of lines stay. In small letters it becomes small; in mixed letters it becomes
-small where its place in the text is odd, and a capital elsewhere.
+small where its place in the text is odd.
 """
 
 import re
@@ -18,7 +18,7 @@ def small(text):
 
 
 def mixed(text):
-    return LETTER.sub(lambda found: found[0].lower() if found.start() % 2 else found[0].upper(), text)
+    return LETTER.sub(lambda found: found[0].lower() if found.start() % 2 else found[0], text)
 
 
 def capital(text):
@@ -26,5 +26,5 @@ def capital(text):
 
 
 def spellings(text):
-    """The text as given, in small letters and in mixed letters: the programs play it in this order."""
-    return text, small(text), mixed(text)
+    """The text as given, in mixed letters and in small letters: the programs play it in this order."""
+    return text, mixed(text), small(text)

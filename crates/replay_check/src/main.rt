@@ -53,12 +53,12 @@ fn prepare(header: &[u8], text: &[u8], image: &mut [u8], work: &mut [u8]) {
     lend(job, header, text, image, work);
 }
 
-// The text is judged as given, in small letters and in mixed letters.
+// The text is judged as given, in mixed letters and in small letters.
 fn play(header: &[u8], text: &mut [u8], image: &mut [u8], work: &mut [u8]) {
     prepare(header, text, image, work);
-    vectors::respell(text, false);
-    prepare(header, text, image, work);
     vectors::respell(text, true);
+    prepare(header, text, image, work);
+    vectors::respell(text, false);
     prepare(header, text, image, work);
 }
 

@@ -59,15 +59,15 @@ fn perform(vector: Vector, input: &[u8], out: &mut [u8]) {
     look(vector.kind, input);
 }
 
-// A text is played as given, in small letters and in mixed letters.
+// A text is played as given, in mixed letters and in small letters.
 fn play(vector: Vector, input: &mut [u8], out: &mut [u8]) {
     perform(vector, input, out);
     if vector.kind == head::WRITE {
         return;
     }
-    vectors::respell(input, false);
-    perform(vector, input, out);
     vectors::respell(input, true);
+    perform(vector, input, out);
+    vectors::respell(input, false);
     perform(vector, input, out);
 }
 

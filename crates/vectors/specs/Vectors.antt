@@ -55,17 +55,13 @@ mixedOf digest (n ∷ ns) = mixedOf (mixOf digest n) ns
 unfoldable pub smallOf : ℕ → ℕ
 smallOf b = cond (leb 65 b && leb b 70) (b + 32) b
 
--- the capital of a small letter among a to f; any other byte stays
-unfoldable pub capitalOf : ℕ → ℕ
-capitalOf b = cond (leb 97 b && leb b 102) (b - 32) b
-
--- a letter at place i is small: everywhere, or in mixed letters at the odd places
+-- a letter at place i becomes small: everywhere, or in mixed letters at the odd places
 unfoldable pub smallAt : Bool → ℕ → Bool
 smallAt mixed i = not mixed || eqb (i % 2) 1
 
 -- a byte in these letters; the first one of a line stays
 unfoldable pub spelledOf : Bool → Bool → ℕ → ℕ
-spelledOf first small b = cond first b (cond small (smallOf b) (capitalOf b))
+spelledOf first small b = cond first b (cond small (smallOf b) b)
 
 -- a text from place i on: a line begins where `first` says so, and behind each LF
 unfoldable pub respelledOf : Bool → ℕ → Bool → List ℕ → List ℕ

@@ -5,7 +5,7 @@
 ghost use mathlib.Core.Path.{_≡_};
 ghost use mathlib.Core.Bool.{true};
 ghost use Prim.Native.Nat.{_+_, _-_, _*_, _<_};
-ghost use Rattle.vectors.specs.Vectors.{rampedOf, roomFor, left, repeatsOf, repeatedOf, mixOf, mixedOf, smallOf, capitalOf, smallAt, spelledOf, respelledOf};
+ghost use Rattle.vectors.specs.Vectors.{rampedOf, roomFor, left, repeatsOf, repeatedOf, mixOf, mixedOf, smallOf, smallAt, spelledOf, respelledOf};
 
 // Digests are below this number, the largest prime that four bytes hold.
 const MODULUS: usize = 4294967291;
@@ -115,18 +115,7 @@ fn small(byte: u8) -> u8
     }
 }
 
-// The capital of a small letter among a to f; any other byte stays.
-fn capital(byte: u8) -> u8
-    ensures { λ r. ⌜ r ≡ capitalOf byte ⌝ }
-{
-    if (97 <= byte) & (byte <= 102) {
-        byte - 32
-    } else {
-        byte
-    }
-}
-
-// Is a letter at this place small?
+// Does a letter at this place become small?
 fn small_at(mixed: bool, place: usize) -> bool
     ensures { λ r. ⌜ r ≡ smallAt mixed place ⌝ }
 {
@@ -140,10 +129,11 @@ fn spelled(first: bool, is_small: bool, byte: u8) -> u8
     if first {
         return byte;
     }
-    if is_small { small(byte) } else { capital(byte) }
+    if is_small { small(byte) } else { byte }
 }
 
-// A text in small letters, or in mixed ones: those of hex digits, A to F, but for the first byte of each line.
+// A text in small letters, or in mixed ones: of the letters of hex digits, A to F, those at odd places become small. The
+// first byte of each line stays.
 pub fn respell(text: &mut [u8], mixed: bool)
     ensures { λ _. ⌜ now (text .exit) ≡ respelledOf mixed 0 true (now (text .entry)) ⌝ }
 {

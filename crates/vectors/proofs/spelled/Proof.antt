@@ -11,16 +11,13 @@ returns c = simp (c .if1 .taken)
 small-requires : tie.Need-small-requires
 small-requires c κs = search needs
 
-capital-requires : tie.Need-capital-requires
-capital-requires c κs = search needs
-
 returns-2 : tie.Need-returns-2
 unfolding spelledOf
 returns-2 c = simp (c .before .before .if1 .left, c .before .if2 .taken, c .small .ensures)
 
 returns-3 : tie.Need-returns-3
 unfolding spelledOf
-returns-3 c = simp (c .before .before .if1 .left, c .before .if2 .left, c .capital .ensures)
+returns-3 c = simp (c .before .if1 .left, c .if2 .left)
 
 pub spelled-spec : {M : Type 1} → statement M
-spelled-spec = tie.close (tie.spec returns small-requires capital-requires returns-2 returns-3)
+spelled-spec = tie.close (tie.spec returns small-requires returns-2 returns-3)
