@@ -7,7 +7,7 @@ use Prim.Native.Nat.{ℕ, zero, suc, _+_, _-_, _≤_, _<_}
 use native.Mathlib.Omega.{arith}
 use lib.Dec.{ltb}
 use lib.ListN.{length, take, drop, getD, length-drop, drop-of-length-le}
-use lib.Seq.{take-nil, take-at, drop-at, drop-append-seam, getD-take, getD-drop}
+use lib.Seq.{take-nil, take-at, drop-at, getD-take, getD-drop}
 use Rattle.laws.specs.Bytes.{put}
 use Rattle.laws.proofs.Bytes.{put-own, put-seam, take-at-most}
 use Rattle.laws.proofs.Places.{put-before, put-in, put-after}
@@ -21,19 +21,19 @@ unfolding capitals
 capitals-length [] = refl
 capitals-length (d ∷ ds) = ap suc (capitals-length ds)
 
-pub capitals-at : (ds : List ℕ) (i : ℕ) → getD (capitals ds) i 0 ≡ capitalOf (getD ds i 0)
+capitals-at : (ds : List ℕ) (i : ℕ) → getD (capitals ds) i 0 ≡ capitalOf (getD ds i 0)
 unfolding capitals
 capitals-at [] i = sym (capital-below 0 (omega arith))
 capitals-at (d ∷ ds) zero = refl
 capitals-at (d ∷ ds) (suc i) = capitals-at ds i
 
-pub capitals-take : (n : ℕ) (ds : List ℕ) → capitals (take n ds) ≡ take n (capitals ds)
+capitals-take : (n : ℕ) (ds : List ℕ) → capitals (take n ds) ≡ take n (capitals ds)
 unfolding capitals
 capitals-take zero ds = refl
 capitals-take (suc n) [] = refl
 capitals-take (suc n) (d ∷ ds) = ap (λ (l : List ℕ). capitalOf d ∷ l) (capitals-take n ds)
 
-pub capitals-drop : (n : ℕ) (ds : List ℕ) → capitals (drop n ds) ≡ drop n (capitals ds)
+capitals-drop : (n : ℕ) (ds : List ℕ) → capitals (drop n ds) ≡ drop n (capitals ds)
 unfolding capitals
 capitals-drop zero ds = refl
 capitals-drop (suc n) [] = refl
@@ -50,14 +50,14 @@ unfolding capitals allDigits
 digits-of-capitals [] = refl
 digits-of-capitals (d ∷ ds) = ap₂ _&&_ (ap (λ (v : ℕ). ltb v 16) (value-of-capital d)) (digits-of-capitals ds)
 
-pub bytes-of-capitals : (ds : List ℕ) → bytesOf (capitals ds) ≡ bytesOf ds
+bytes-of-capitals : (ds : List ℕ) → bytesOf (capitals ds) ≡ bytesOf ds
 unfolding capitals bytesOf
 bytes-of-capitals [] = refl
 bytes-of-capitals (d ∷ []) = refl
 bytes-of-capitals (d ∷ e ∷ ds) = ap₂ _∷_ (byte-of-capitals d e) (bytes-of-capitals ds)
 
 -- what is in capitals stays, and so does what is written
-pub capitals-of-capitals : (ds : List ℕ) → capitals (capitals ds) ≡ capitals ds
+capitals-of-capitals : (ds : List ℕ) → capitals (capitals ds) ≡ capitals ds
 unfolding capitals
 capitals-of-capitals [] = refl
 capitals-of-capitals (d ∷ ds) = ap₂ _∷_ (capital-of-capital d) (capitals-of-capitals ds)

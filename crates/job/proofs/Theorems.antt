@@ -23,7 +23,7 @@ use Rattle.refusal.specs.Delivery.{inNumbers, delivery, delivered}
 use Rattle.packed.specs.Calls.{writeRefusals, writeOf}
 use Rattle.job.specs.Calls.{textRefusals, measureOf, readOf}
 use Rattle.text.proofs.EventText.{text-clean, text-events, text-capital, good-text, good-proper, Names, named-from-one}
-use Rattle.text.proofs.CapitalText.{capital-lines, capital-bad, capital-events, text-in-capitals, capital-text-length}
+use Rattle.text.proofs.CapitalText.{capital-lines, capital-bad, capital-events, capital-text-stays, text-in-capitals, capital-text-length}
 use Rattle.packed.proofs.EventPacked.{packed-packs, packed-events, packs-packed, packs-proper}
 use Rattle.refusal.proofs.Delivery.{numbers-injective, delivery-injective, delivers-refusal, delivers-output}
 use Rattle.packed.proofs.Refusals.{packed-whole, write-within}
@@ -52,6 +52,10 @@ spelling-in-fields l i k in-field h = capital-inside l i k in-field h
 
 pub spelling-elsewhere : (l : List ℕ) (i : ℕ) → Outside (length l) i ⊎ (getD l 0 0 ≡ 81 → ⊥) → getD (capitalLine l) i 0 ≡ getD l i 0
 spelling-elsewhere l i = ⊎-elim (capital-outside l i) (λ n. ap (λ (x : List ℕ). getD x i 0) (capital-other l n))
+
+-- A capital spelling is its own.
+pub spelling-stays : (t : List ℕ) → capitalText (capitalText t) ≡ capitalText t
+spelling-stays t = capital-text-stays t
 
 -- A text and its capital spelling have the same events and the same first malformed line, and get the same answer.
 pub same-events : (t : List ℕ) → (eventsOf (capitalText t) ≡ eventsOf t) × (firstBad (capitalText t) ≡ firstBad t)

@@ -73,7 +73,7 @@ capital-outside l i out =
     ∙ part-outside 19 (length l - 20) l i (out .1))
     (λ n. ap (λ (x : List ℕ). getD x i 0) (capital-other l n))
 
-pub capital-kind : (l : List ℕ) → getD (capitalLine l) 0 0 ≡ getD l 0 0
+capital-kind : (l : List ℕ) → getD (capitalLine l) 0 0 ≡ getD l 0 0
 capital-kind l = capital-outside l 0 (inl (omega arith), inl (omega arith))
 
 -- a capital spelling is its own

@@ -1,8 +1,8 @@
 -- What a caller of `read` learns of a line. Assumes nothing.
-use mathlib.Core.Path.{_≡_, ap, ap₂, _∙_, sym}
+use mathlib.Core.Path.{_≡_, ap, _∙_, sym}
 use mathlib.Core.Bool.{true, false, _&&_}
 use mathlib.Core.List.{List}
-use Prim.Native.Nat.{ℕ, _+_, _-_, _*_, _/_, _≤_, _<_}
+use Prim.Native.Nat.{ℕ, _+_, _-_, _/_, _≤_, _<_}
 use native.Mathlib.Omega.{arith}
 use lib.ListN.{length, take, drop, getD}
 use lib.Seq.{getD-take}
@@ -12,7 +12,6 @@ use Rattle.laws.proofs.Append.{take-put}
 use Rattle.laws.proofs.Split.{by-bool, and-true}
 use Rattle.laws.specs.Lines.{firstLine}
 use Rattle.laws.proofs.Lines.{first-some}
-use Rattle.hex.specs.Hex.{bytesOf}
 use Rattle.hex.proofs.Fields.{byte-of}
 use Rattle.record.specs.Record.{lengthIn, spelled, recordIn, lengthOf, typeOf, sound, goodRecord}
 use Rattle.record.specs.Ways.{recordLineLength, recordLaid}

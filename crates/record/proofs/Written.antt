@@ -1,14 +1,13 @@
 -- A line that was written, read again; and the fields of a record that was made. Assumes nothing.
 use mathlib.Core.Path.{_≡_, refl, ap, ap₂, _∙_, sym}
-use mathlib.Core.Bool.{true, _&&_}
+use mathlib.Core.Bool.{true}
 use mathlib.Core.List.{List, [], _∷_, _++_, append-assoc}
 use mathlib.Core.Logic.{inl}
-use Prim.Native.Nat.{ℕ, suc, _+_, _-_, _*_, _/_, _%_, _≤_, _<_}
+use Prim.Native.Nat.{ℕ, _+_, _-_, _*_, _/_, _%_, _≤_, _<_}
 use native.Mathlib.Omega.{arith}
-use lib.Dec.{eqb, ltb}
-use lib.ListN.{length, take, drop, getD, length-append}
+use lib.ListN.{length, drop, getD}
 use lib.Seq.{take-append-seam, drop-append-seam}
-use borrow.Author.Tests.{lt-ltb, eq-eqb}
+use borrow.Author.Tests.{lt-ltb}
 use Rattle.laws.specs.Lists.{allBytes}
 use Rattle.laws.proofs.Lists.{bytes-append}
 use Rattle.laws.specs.Lines.{firstLine, linesOf}
@@ -46,10 +45,6 @@ module _ (r : List ℕ) (bytes : allBytes r ≡ true) (whole : length r ≡ 5 + 
   pub written-first : (s : List ℕ) → firstLine (recordLine r ++ s) ≡ recordLine r
   unfolding recordLine spells-written
   written-first s = spells-first (spells-written s)
-
-  nothing-behind : recordLine r ++ [] ≡ recordLine r
-  unfolding recordLine
-  nothing-behind = ap (λ (l : List ℕ). 58 ∷ l) (append-assoc (hexOf r) (10 ∷ []) [])
 
   pub written-record : recordIn (recordLine r) ≡ r
   unfolding spells-written
