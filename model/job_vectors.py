@@ -179,7 +179,7 @@ def fields_of(event):
 
 
 def both_cases(tape):
-    """Digits and their neighbours at the ends of both fields; fields in letters of their own; no small A, no small Q."""
+    """Digits and their neighbours at the ends of both fields; fields in letters of their own; small a and q."""
     for byte in b"/09:@AFG`afg":
         for line in (b"Q\t%c104000000000000\t\n", b"Q\tA10300000000060%c\t\n",
                      b"Q\t2101000000000200\t%c0FF\n", b"Q\t2101000000000200\tFF0%c\n"):

@@ -174,8 +174,7 @@ ruled-alike : (a : Admission) (n : ℕ) (t u image card w : List ℕ) (f : Field
 ruled-alike admission.Admitted n t u image card w f x e c = (c .0, c .1, rw e at (c .2))
 ruled-alike (admission.Refused r) n t u image card w f x e c = c
 
--- A text and its capital spelling get the same answer, and leave the same: what the promise of `check` allows for the
--- one, it allows for the other.
+-- What the promise of `check` allows for a text, it allows for its capital spelling, and the other way round.
 pub same-answer : (n : ℕ) (t image card w : List ℕ) (f : Fields) (x : List ℕ) → (Checked n t image card w f x → Checked n (capitalText t) image card w f x) × (Checked n (capitalText t) image card w f x → Checked n t image card w f x)
 same-answer n t image card w f x =
     let a = checkable n t (length image) (length card) (length w) in
@@ -184,7 +183,11 @@ same-answer n t image card w f x =
       λ c. ruled-alike a n (capitalText t) t image card w f x (capital-events t) (rw e at c),
     )
 
--- So texts with one capital spelling have one verdict: a plan in small letters passes as the plan does.
+-- So the verdict of a text is that of its capital spelling.
+pub spelling-answer : (n : ℕ) (t image card w : List ℕ) (v u : Verdict) (x y : List ℕ) → Checked n t image card w (inFields v) x → Checked n (capitalText t) image card w (inFields u) y → v ≡ u
+spelling-answer n t image card w v u x y a b = one-answer n t image card w v u x y a (same-answer n t image card w (inFields u) y .1 b)
+
+-- And texts with one capital spelling have one verdict: where a plan passes, so does its text in small letters.
 pub one-spelling-one-answer : (n : ℕ) (t u image card w : List ℕ) (v o : Verdict) (x y : List ℕ) → capitalText t ≡ capitalText u → Checked n t image card w (inFields v) x → Checked n u image card w (inFields o) y → v ≡ o
 one-spelling-one-answer n t u image card w v o x y e a b =
     let c = same-answer n t image card w (inFields v) x .0 a in

@@ -9,7 +9,7 @@ use lib.Dec.{ltb}
 use lib.ListN.{length, take, drop, getD, length-drop, drop-of-length-le}
 use lib.Seq.{take-nil, take-at, drop-at, getD-take, getD-drop}
 use Rattle.laws.specs.Bytes.{put}
-use Rattle.laws.proofs.Bytes.{put-own, put-seam, take-at-most}
+use Rattle.laws.proofs.Bytes.{put-own, put-seam, take-at-most, take-within}
 use Rattle.laws.proofs.Places.{put-before, put-in, put-after}
 use Rattle.laws.proofs.Split.{by-lt}
 use Rattle.digit.specs.Digit.{capitalOf}
@@ -99,14 +99,9 @@ module _ (at n : ℕ) (l : List ℕ) where
   room : at < length l → at + length (capitals part) ≤ length l
   room h =
       let d : length (drop at l) ≡ length l - at = length-drop at l in
-      let k : length part ≤ length (drop at l) = within n (drop at l) in
+      let k : length part ≤ length (drop at l) = take-within n (drop at l) in
       let c = capitals-length part in
       omega arith
-    where
-      within : (n : ℕ) (l : List ℕ) → length (take n l) ≤ length l
-      within zero l = omega arith
-      within (suc n) [] = omega arith
-      within (suc n) (x ∷ l) = let h = within n l in omega arith
 
   -- past the end of the list there is no part
   no-part : length l ≤ at → capitalPart at n l ≡ l

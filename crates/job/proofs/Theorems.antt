@@ -15,8 +15,8 @@ use Rattle.line.specs.Event.{Event}
 use Rattle.laws.specs.Lines.{linesOf}
 use Rattle.digit.specs.Digit.{capitalOf}
 use Rattle.hex.specs.Hex.{capitals}
-use Rattle.line.specs.Line.{capitalLine}
-use Rattle.line.proofs.CapitalLine.{Inside, Outside, capital-other, capital-inside, capital-outside}
+use Rattle.line.specs.Line.{InField, capitalLine}
+use Rattle.line.proofs.CapitalLine.{capital-other, capital-inside, capital-outside}
 use Rattle.text.specs.Text.{limit, proper, textOf, firstBad, eventsOf, capitalText}
 use Rattle.packed.specs.Packed.{packedOf, unpacked}
 use Rattle.refusal.specs.Delivery.{inNumbers, delivery, delivered}
@@ -47,10 +47,10 @@ spelling-keeps-letters t = (text-in-capitals t, capital-text-length t)
 pub spelling-by-lines : (t : List ℕ) → linesOf (capitalText t) ≡ map capitalLine (linesOf t)
 spelling-by-lines t = capital-lines t
 
-pub spelling-in-fields : (l : List ℕ) (i : ℕ) → getD l 0 0 ≡ 81 → Inside (length l) i → i < length l → getD (capitalLine l) i 0 ≡ capitalOf (getD l i 0)
+pub spelling-in-fields : (l : List ℕ) (i : ℕ) → getD l 0 0 ≡ 81 → InField l i → i < length l → getD (capitalLine l) i 0 ≡ capitalOf (getD l i 0)
 spelling-in-fields l i k in-field h = capital-inside l i k in-field h
 
-pub spelling-elsewhere : (l : List ℕ) (i : ℕ) → Outside (length l) i ⊎ (getD l 0 0 ≡ 81 → ⊥) → getD (capitalLine l) i 0 ≡ getD l i 0
+pub spelling-elsewhere : (l : List ℕ) (i : ℕ) → (InField l i → ⊥) ⊎ (getD l 0 0 ≡ 81 → ⊥) → getD (capitalLine l) i 0 ≡ getD l i 0
 spelling-elsewhere l i = ⊎-elim (capital-outside l i) (λ n. ap (λ (x : List ℕ). getD x i 0) (capital-other l n))
 
 -- A capital spelling is its own.

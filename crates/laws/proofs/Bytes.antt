@@ -3,7 +3,7 @@ use mathlib.Core.Path.{_≡_, refl, ap, _∙_, sym}
 use mathlib.Core.List.{List, [], _∷_, _++_, append-nil, append-assoc}
 use Prim.Native.Nat.{ℕ, zero, suc, _+_, _-_, _≤_, _<_}
 use native.Mathlib.Omega.{arith}
-use native.Mathlib.Nat.{le-refl, add-assoc, min-le-left}
+use native.Mathlib.Nat.{le-refl, add-assoc, min-le-left, min-le-right}
 use native.Mathlib.Numerals.{add-one}
 use lib.ListN.{length, take, drop, getD, set, replicate, length-append, length-take, length-drop, length-replicate, drop-of-length-le, take-append-drop}
 use lib.Seq.{drop-cons, sets, sets-eq, length-sets, take-all, take-append-seam, drop-append-add, drop-drop}
@@ -79,6 +79,10 @@ filled-span from count v m =
 -- the front of a list is no longer than asked for
 pub take-at-most : (n : ℕ) (l : List ℕ) → length (take n l) ≤ n
 take-at-most n l = rw length-take (min-le-left n (length l))
+
+-- nor longer than the list
+pub take-within : (n : ℕ) (l : List ℕ) → length (take n l) ≤ length l
+take-within n l = rw (length-take n l) (min-le-right n (length l))
 
 -- a part of a list, laid over itself, changes nothing
 part-rest : (n : ℕ) (l : List ℕ) → take n l ++ drop (length (take n l)) l ≡ l

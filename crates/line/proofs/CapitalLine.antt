@@ -12,69 +12,64 @@ use Rattle.digit.specs.Digit.{capitalOf}
 use Rattle.digit.proofs.Values.{capital-of-capital}
 use Rattle.hex.specs.Hex.{capitals, capitalPart}
 use Rattle.hex.proofs.Capitals.{part-capitals, part-same-length, part-inside, part-outside, part-between, capitals-length, same-bytes}
-use Rattle.line.specs.Line.{capitalLine, eventOf}
+use Rattle.line.specs.Line.{InField, capitalLine, eventOf}
 use Rattle.line.proofs.Spelling.{spelled, Spelled, spelled-here, is-spelled}
 
-capital-request : (l : List ℕ) → getD l 0 0 ≡ 81 → capitalLine l ≡ capitalPart 2 16 (capitalPart 19 (length l - 20) l)
+-- a place of a line of n bytes lies outside of both hex fields
+abbrev Outside : ℕ → ℕ → Type 0
+Outside n i = ((i < 2) ⊎ (2 + 16 ≤ i)) × ((i < 19) ⊎ (19 + (n - 20) ≤ i))
+
+in-or-out : (l : List ℕ) (i : ℕ) → InField l i ⊎ Outside (length l) i
+in-or-out l i =
+    by-lt i 2 (λ a. inr (inl a, inl (omega arith)))
+    (λ a.
+    by-lt i 18 (λ b. inl (inl (a, b)))
+    (λ b.
+    by-lt i 19 (λ c. inr (inr b, inl c))
+    (λ c. by-lt i (19 + (length l - 20)) (λ d. inl (inr (c, d))) (λ d. inr (inr b, inr d)))))
+
+-- a byte of a hex field becomes its capital
+pub capital-inside : (l : List ℕ) (i : ℕ) → getD l 0 0 ≡ 81 → InField l i → i < length l → getD (capitalLine l) i 0 ≡ capitalOf (getD l i 0)
 unfolding capitalLine
-capital-request l k = rw (eq-eqb (getD l 0 0) 81 k)
+capital-inside l i k in-field h =
+    let n = length l - 20 in
+    let m = capitalPart 19 n l in
+    let w : i < length m = rw (part-same-length 19 n l) h in
+    rw (eq-eqb (getD l 0 0) 81 k)
+    (⊎-elim
+    (λ r. let c : i < 19 = omega arith in part-inside 2 16 m i (r .0) (r .1) w ∙ ap capitalOf (part-outside 19 n l i (inl c)))
+    (λ r. let b : 2 + 16 ≤ i = omega arith in part-outside 2 16 m i (inr b) ∙ part-inside 19 n l i (r .0) (r .1) h)
+    in-field)
 
 -- only a line of `Q` has hex fields
 pub capital-other : (l : List ℕ) → (getD l 0 0 ≡ 81 → ⊥) → capitalLine l ≡ l
 unfolding capitalLine
 capital-other l n = rw (ne-eqb (getD l 0 0) 81 n)
 
+-- and no other byte changes
+stays-outside : (l : List ℕ) (i : ℕ) → Outside (length l) i → getD (capitalLine l) i 0 ≡ getD l i 0
+unfolding capitalLine
+stays-outside l i out =
+    by-eq (getD l 0 0) 81
+    (λ k. rw (eq-eqb (getD l 0 0) 81 k) (part-outside 2 16 (capitalPart 19 (length l - 20) l) i (out .0) ∙ part-outside 19 (length l - 20) l i (out .1)))
+    (λ n. ap (λ (x : List ℕ). getD x i 0) (capital-other l n))
+
+pub capital-outside : (l : List ℕ) (i : ℕ) → (InField l i → ⊥) → getD (capitalLine l) i 0 ≡ getD l i 0
+capital-outside l i none = ⊎-elim (λ r. absurd (none r)) (stays-outside l i) (in-or-out l i)
+
+capital-kind : (l : List ℕ) → getD (capitalLine l) 0 0 ≡ getD l 0 0
+capital-kind l = stays-outside l 0 (inl (omega arith), inl (omega arith))
+
 -- nothing but the case of letters changes
 pub capital-capitals : (l : List ℕ) → capitals (capitalLine l) ≡ capitals l
+unfolding capitalLine
 capital-capitals l =
     by-eq (getD l 0 0) 81
-    (λ k.
-    let m = capitalPart 19 (length l - 20) l in
-    ap capitals (capital-request l k) ∙ part-capitals 2 16 m ∙ part-capitals 19 (length l - 20) l)
+    (λ k. rw (eq-eqb (getD l 0 0) 81 k) (part-capitals 2 16 (capitalPart 19 (length l - 20) l) ∙ part-capitals 19 (length l - 20) l))
     (λ n. ap capitals (capital-other l n))
 
 pub capital-same-length : (l : List ℕ) → length (capitalLine l) ≡ length l
 capital-same-length l = sym (capitals-length (capitalLine l)) ∙ ap length (capital-capitals l) ∙ capitals-length l
-
--- a place of a line of n bytes lies in one of the hex fields, or outside of both
-abbrev pub Inside : ℕ → ℕ → Type 0
-Inside n i = ((2 ≤ i) × (i < 18)) ⊎ ((19 ≤ i) × (i < 19 + (n - 20)))
-
-abbrev pub Outside : ℕ → ℕ → Type 0
-Outside n i = ((i < 2) ⊎ (2 + 16 ≤ i)) × ((i < 19) ⊎ (19 + (n - 20) ≤ i))
-
-in-or-out : (n i : ℕ) → Inside n i ⊎ Outside n i
-in-or-out n i =
-    by-lt i 2 (λ a. inr (inl a, inl (omega arith)))
-    (λ a.
-    by-lt i 18 (λ b. inl (inl (a, b)))
-    (λ b.
-    by-lt i 19 (λ c. inr (inr b, inl c))
-    (λ c. by-lt i (19 + (n - 20)) (λ d. inl (inr (c, d))) (λ d. inr (inr b, inr d)))))
-
--- a digit of a hex field becomes its capital, and no other byte changes
-pub capital-inside : (l : List ℕ) (i : ℕ) → getD l 0 0 ≡ 81 → Inside (length l) i → i < length l → getD (capitalLine l) i 0 ≡ capitalOf (getD l i 0)
-capital-inside l i k in-field h =
-    let n = length l - 20 in
-    let m = capitalPart 19 n l in
-    let w : i < length m = rw (part-same-length 19 n l) h in
-    ap (λ (x : List ℕ). getD x i 0) (capital-request l k)
-    ∙ ⊎-elim
-    (λ r. let b : i < 2 + 16 = omega arith in let c : i < 19 = omega arith in part-inside 2 16 m i (r .0) b w ∙ ap capitalOf (part-outside 19 n l i (inl c)))
-    (λ r. let b : 2 + 16 ≤ i = omega arith in part-outside 2 16 m i (inr b) ∙ part-inside 19 n l i (r .0) (r .1) h)
-    in-field
-
-pub capital-outside : (l : List ℕ) (i : ℕ) → Outside (length l) i → getD (capitalLine l) i 0 ≡ getD l i 0
-capital-outside l i out =
-    by-eq (getD l 0 0) 81
-    (λ k.
-    ap (λ (x : List ℕ). getD x i 0) (capital-request l k)
-    ∙ part-outside 2 16 (capitalPart 19 (length l - 20) l) i (out .0)
-    ∙ part-outside 19 (length l - 20) l i (out .1))
-    (λ n. ap (λ (x : List ℕ). getD x i 0) (capital-other l n))
-
-capital-kind : (l : List ℕ) → getD (capitalLine l) 0 0 ≡ getD l 0 0
-capital-kind l = capital-outside l 0 (inl (omega arith), inl (omega arith))
 
 -- a capital spelling is its own
 pub capital-line-stays : (l : List ℕ) → capitalLine (capitalLine l) ≡ capitalLine l
@@ -91,8 +86,8 @@ capital-line-stays l =
     ⊎-elim
     (λ r.
     capital-inside m i q (rw s r) w ∙ ap capitalOf (capital-inside l i k r v) ∙ capital-of-capital (getD l i 0) ∙ sym (capital-inside l i k r v))
-    (λ r. capital-outside m i (rw s r))
-    (in-or-out (length l) i)))
+    (λ r. stays-outside m i (rw s r))
+    (in-or-out l i)))
     (λ n. capital-other m (λ k. n (sym (capital-kind l) ∙ k)))
 
 -- it spells the same event
@@ -104,6 +99,7 @@ event-capital l =
 
 -- a request's line, by its fields
 pub capital-spelled : (x y : List ℕ) → length x ≡ 16 → capitalLine (spelled x y []) ≡ spelled (capitals x) (capitals y) []
+unfolding capitalLine
 capital-spelled x y wide =
     let u = spelled x y [] in
     let a : List ℕ = 81 ∷ 9 ∷ (x ++ (9 ∷ [])) in
@@ -111,8 +107,7 @@ capital-spelled x y wide =
     let n : length y ≡ length u - 20 = omega arith in
     let e : length a ≡ 19 = let l : length (x ++ (9 ∷ [])) ≡ length x + 1 = length-append x (9 ∷ []) in omega arith in
     let split : (w : List ℕ) → spelled x w [] ≡ a ++ (w ++ (10 ∷ [])) = λ w. ap (λ (r : List ℕ). 81 ∷ 9 ∷ r) (sym (append-assoc x (9 ∷ []) (w ++ (10 ∷ [])))) in
-    capital-request u refl
-    ∙ ap (capitalPart 2 16)
+    ap (capitalPart 2 16)
     (ap (capitalPart 19 (length u - 20)) (split y) ∙ part-between a y (10 ∷ []) 19 (length u - 20) e n ∙ sym (split (capitals y)))
     ∙ part-between (81 ∷ 9 ∷ []) x (9 ∷ (capitals y ++ (10 ∷ []))) 2 16 refl wide
 
@@ -130,7 +125,7 @@ module _ (l p q : List ℕ) (wide : length p ≡ 16) (e : capitalLine l ≡ spel
   size = let z = facts .size in let s = capital-same-length l in omega arith
 
   stands : (i : ℕ) → Outside (length l) i → getD l i 0 ≡ getD (capitalLine l) i 0
-  stands i out = sym (capital-outside l i out)
+  stands i out = sym (stays-outside l i out)
 
   own : l ≡ spelled (take 16 (drop 2 l)) (take (length l - 20) (drop 19 l)) []
   own =

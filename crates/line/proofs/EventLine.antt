@@ -2,19 +2,19 @@
 use mathlib.Core.Path.{_≡_, refl, ap, ap₂, _∙_}
 use mathlib.Core.Bool.{true}
 use mathlib.Core.List.{List, [], _∷_, _++_, append-assoc}
-use Prim.Native.Nat.{ℕ, _*_, _<_}
+use Prim.Native.Nat.{ℕ, _<_}
 use native.Mathlib.Omega.{arith}
 use lib.ListN.{length, take, drop, take-append-drop}
 use lib.Seq.{length-take-le}
 use Rattle.laws.proofs.Lists.{bytes-take, bytes-drop}
 use Rattle.request.proofs.Lengths.{fits-eight}
 use Rattle.hex.specs.Hex.{hexOf}
-use Rattle.hex.proofs.Fields.{digits-hex, hex-length}
+use Rattle.hex.proofs.Fields.{digits-hex}
 use Rattle.hex.proofs.Capitals.{capitals-hex}
 use Rattle.line.specs.Event.{Event, attach, request, fits, inBytes, lineOf}
 use Rattle.laws.specs.Lines.{firstLine}
 use Rattle.line.specs.Line.{eventOf, capitalLine, wellSpelled}
-use Rattle.line.proofs.Spelling.{spells-hex, spelled}
+use Rattle.line.proofs.Spelling.{spells-hex, setup-wide, spelled}
 use Rattle.line.proofs.FirstLine.{first-spelled}
 use Rattle.line.proofs.CapitalLine.{capital-other, capital-spelled}
 use Rattle.line.proofs.Formed.{well-spelled, event-spelled}
@@ -33,8 +33,7 @@ capital-line-of : (e : Event) → fits e ≡ true → capitalLine (lineOf e) ≡
 unfolding fits lineOf
 capital-line-of attach f = capital-other (65 ∷ 10 ∷ []) (λ e. omega arith)
 capital-line-of (request q) f =
-    let w : length (hexOf (take 8 q)) ≡ 16 = let l : length (take 8 q) ≡ 8 = length-take-le 8 q (fits-eight q f) in let e : length (hexOf (take 8 q)) ≡ length (take 8 q) * 2 = hex-length (take 8 q) in omega arith in
-    capital-spelled (hexOf (take 8 q)) (hexOf (drop 8 q)) w
+    capital-spelled (hexOf (take 8 q)) (hexOf (drop 8 q)) (setup-wide q (fits-eight q f))
     ∙ ap₂ (λ (m : List ℕ) (n : List ℕ). spelled m n []) (capitals-hex (take 8 q)) (capitals-hex (drop 8 q))
 
 pub line-formed : (e : Event) → fits e ≡ true → inBytes e ≡ true → wellSpelled (lineOf e) ≡ true

@@ -19,7 +19,7 @@ use Rattle.line.specs.Event.{Event, attach, request, fits, lineOf, inByt
 use Rattle.laws.specs.Lines.{firstLine}
 use Rattle.laws.proofs.Lines.{first-rest, first-kind}
 use Rattle.line.specs.Line.{eventOf, capitalLine, wellSpelled}
-use Rattle.line.proofs.Spelling.{Spells, spells-field, hex-spells, spelled, Spelled, spelled-here}
+use Rattle.line.proofs.Spelling.{Spells, spells-field, hex-spells, setup-wide, spelled, Spelled, spelled-here}
 use Rattle.laws.proofs.Lists.{same-refl, same-eq, bytes-append}
 use Rattle.line.proofs.FirstLine.{first-spelled}
 use Rattle.line.proofs.CapitalLine.{capital-other, capital-line-stays, event-capital, capital-spelled, Uncapital, uncapital}
@@ -184,10 +184,7 @@ module _ (l : List ℕ) (formed : wellSpelled l ≡ true) (other : getD l 0 0 �
   asked-line = formed-line l formed ∙ ap lineOf (event-request l other)
 
   sixteen : length (hexOf (take 8 asked)) ≡ 16
-  sixteen =
-      let l : length (take 8 asked) ≡ 8 = length-take-le 8 asked (fits-eight asked asked-fits) in
-      let e : length (hexOf (take 8 asked)) ≡ length (take 8 asked) * 2 = hex-length (take 8 asked) in
-      omega arith
+  sixteen = setup-wide asked (fits-eight asked asked-fits)
 
   fields : Uncapital l (hexOf (take 8 asked)) (hexOf (drop 8 asked))
   fields = uncapital l (hexOf (take 8 asked)) (hexOf (drop 8 asked)) sixteen asked-line

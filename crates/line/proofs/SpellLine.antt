@@ -12,17 +12,15 @@ use Rattle.laws.proofs.Append.{sets-append}
 use Rattle.hex.specs.Hex.{hexOf}
 use Rattle.hex.proofs.Fields.{hex-length}
 use Rattle.line.specs.Event.{attach, request, lineOf}
-use Rattle.line.proofs.Spelling.{spelled-size}
+use Rattle.line.proofs.Spelling.{setup-wide, spelled-size}
 
 -- a line's length, from the packed bytes of its event
 pub line-length-of : (q : List ℕ) → 8 ≤ length q → length (lineOf (request q)) ≡ 20 + (length q - 8) * 2
 unfolding lineOf
 line-length-of q h =
-    let l : length (take 8 q) ≡ 8 = length-take-le 8 q h in
     let d : length (drop 8 q) ≡ length q - 8 = length-drop 8 q in
-    let a : length (hexOf (take 8 q)) ≡ length (take 8 q) * 2 = hex-length (take 8 q) in
     let b : length (hexOf (drop 8 q)) ≡ length (drop 8 q) * 2 = hex-length (drop 8 q) in
-    spelled-size (hexOf (take 8 q)) (hexOf (drop 8 q)) [] (omega arith) ∙ (let e : 20 + length (hexOf (drop 8 q)) + 0 ≡ 20 + (length q - 8) * 2 = omega arith in e)
+    spelled-size (hexOf (take 8 q)) (hexOf (drop 8 q)) [] (setup-wide q h) ∙ (let e : 20 + length (hexOf (drop 8 q)) + 0 ≡ 20 + (length q - 8) * 2 = omega arith in e)
 
 -- the room that a request's line takes
 pub request-room : (q : List ℕ) (at n : ℕ) → 8 ≤ length q → at + length (lineOf (request q)) ≤ n → at + 20 + (length q - 8) * 2 ≤ n
@@ -45,7 +43,7 @@ module _ (q out o₁ o₂ : List ℕ) (at : ℕ) (eight : 8 ≤ length q) (fits 
 
   a-length : length a ≡ 16
   unfolding a
-  a-length = let l : length (take 8 q) ≡ 8 = length-take-le 8 q eight in let e : length (hexOf (take 8 q)) ≡ length (take 8 q) * 2 = hex-length (take 8 q) in omega arith
+  a-length = setup-wide q eight
 
   b-length : length b ≡ (length q - 8) * 2
   unfolding b

@@ -5,7 +5,7 @@ use mathlib.Core.List.{List, _∷_, _++_}
 use Prim.Native.Nat.{ℕ, suc, _+_, _*_, _/_, _%_, _≤_, _<_}
 use native.Mathlib.Omega.{arith}
 use lib.ListN.{length, take, drop, getD, length-append, take-append-drop}
-use lib.Seq.{drop-cons, drop-drop, take-at, getD-at, drop-append-add, getD-drop}
+use lib.Seq.{drop-cons, drop-drop, take-at, getD-at, drop-append-add, getD-drop, length-take-le}
 use Rattle.hex.specs.Hex.{hexOf, bytesOf, allDigits, capitals}
 use Rattle.hex.proofs.Fields.{hex-length, bytes-length, bytes-hex, digits-hex, hex-bytes}
 use Rattle.laws.specs.Lists.{allBytes}
@@ -29,6 +29,13 @@ pub hex-spells : {ds xs : List ℕ} → Spells ds xs → hexOf xs ≡ capitals d
 hex-spells {ds} {xs} s =
     let e : length ds % 2 ≡ 0 = let t = s .twice in omega arith in
     ap hexOf (sym (s .bytes)) ∙ hex-bytes ds (s .digits) e
+
+-- the field of a setup has 16 digits
+pub setup-wide : (q : List ℕ) → 8 ≤ length q → length (hexOf (take 8 q)) ≡ 16
+setup-wide q h =
+    let l : length (take 8 q) ≡ 8 = length-take-le 8 q h in
+    let e : length (hexOf (take 8 q)) ≡ length (take 8 q) * 2 = hex-length (take 8 q) in
+    omega arith
 
 -- a request's line: the field a of its setup, the field b of its data, and r after it
 abbrev pub spelled : List ℕ → List ℕ → List ℕ → List ℕ

@@ -10,7 +10,7 @@ use lib.Dec.{leb, eqb}
 use lib.ListN.{length, take, drop, getD, set, drop-of-length-le, take-append-drop}
 use lib.Seq.{drop-cons, take-suc-set, drop-set-lt}
 use Rattle.laws.proofs.Split.{and-true}
-use Rattle.vectors.specs.Vectors.{smallAt, spelledOf, respelledOf}
+use Rattle.vectors.specs.Vectors.{smallAt, letterOf, respelledOf}
 
 -- what a test for a range of bytes tells
 pub between : (low high b : ℕ) → (leb low b && leb b high) ≡ true → (low ≤ b) × (b ≤ high)
@@ -18,7 +18,7 @@ between low high b e =
     let p = and-true (leb low b) (leb b high) e in
     (leb-true _ _ (p .0), leb-true _ _ (p .1))
 
-pub respelled-turn : (mixed first s : Bool) (i v : ℕ) (m : List ℕ) → i < length m → s ≡ smallAt mixed i → v ≡ spelledOf first s (getD m i 0) → take (i + 1) (set m i v) ++ respelledOf mixed (i + 1) (eqb (getD m i 0) 10) (drop (i + 1) (set m i v)) ≡ take i m ++ respelledOf mixed i first (drop i m)
+pub respelled-turn : (mixed first s : Bool) (i v : ℕ) (m : List ℕ) → i < length m → s ≡ smallAt mixed i → v ≡ letterOf first s (getD m i 0) → take (i + 1) (set m i v) ++ respelledOf mixed (i + 1) (eqb (getD m i 0) 10) (drop (i + 1) (set m i v)) ≡ take i m ++ respelledOf mixed i first (drop i m)
 unfolding respelledOf
 respelled-turn mixed first s i v m h small is =
     let past : i < suc i = omega arith in

@@ -60,10 +60,10 @@ unfoldable pub smallAt : Bool → ℕ → Bool
 smallAt mixed i = not mixed || eqb (i % 2) 1
 
 -- a byte in these letters; the first one of a line stays
-unfoldable pub spelledOf : Bool → Bool → ℕ → ℕ
-spelledOf first small b = cond first b (cond small (smallOf b) b)
+unfoldable pub letterOf : Bool → Bool → ℕ → ℕ
+letterOf first small b = cond first b (cond small (smallOf b) b)
 
 -- a text from place i on: a line begins where `first` says so, and behind each LF
 unfoldable pub respelledOf : Bool → ℕ → Bool → List ℕ → List ℕ
 respelledOf mixed i first [] = []
-respelledOf mixed i first (b ∷ bs) = spelledOf first (smallAt mixed i) b ∷ respelledOf mixed (suc i) (eqb b 10) bs
+respelledOf mixed i first (b ∷ bs) = letterOf first (smallAt mixed i) b ∷ respelledOf mixed (suc i) (eqb b 10) bs

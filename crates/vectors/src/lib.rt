@@ -5,7 +5,7 @@
 ghost use mathlib.Core.Path.{_≡_};
 ghost use mathlib.Core.Bool.{true};
 ghost use Prim.Native.Nat.{_+_, _-_, _*_, _<_};
-ghost use Rattle.vectors.specs.Vectors.{rampedOf, roomFor, left, repeatsOf, repeatedOf, mixOf, mixedOf, smallOf, smallAt, spelledOf, respelledOf};
+ghost use Rattle.vectors.specs.Vectors.{rampedOf, roomFor, left, repeatsOf, repeatedOf, mixOf, mixedOf, smallOf, smallAt, letterOf, respelledOf};
 
 // Digests are below this number, the largest prime that four bytes hold.
 const MODULUS: usize = 4294967291;
@@ -123,8 +123,8 @@ fn small_at(mixed: bool, place: usize) -> bool
 }
 
 // A byte in these letters; the first one of a line stays.
-fn spelled(first: bool, is_small: bool, byte: u8) -> u8
-    ensures { λ r. ⌜ r ≡ spelledOf first «is_small» byte ⌝ }
+fn letter(first: bool, is_small: bool, byte: u8) -> u8
+    ensures { λ r. ⌜ r ≡ letterOf first «is_small» byte ⌝ }
 {
     if first {
         return byte;
@@ -141,7 +141,7 @@ pub fn respell(text: &mut [u8], mixed: bool)
     let mut i = 0;
     while i < text.len() {
         let byte = text[i];
-        text[i] = spelled(first, small_at(mixed, i), byte);
+        text[i] = letter(first, small_at(mixed, i), byte);
         first = byte == 10;
         i += 1;
     }

@@ -26,8 +26,8 @@ slice-read-byte c = search needs
 small-at-requires : tie.Need-small-at-requires Inv-loop μ-loop
 small-at-requires c κs = search needs
 
-spelled-requires : tie.Need-spelled-requires Inv-loop μ-loop
-spelled-requires c κs = search needs
+letter-requires : tie.Need-letter-requires Inv-loop μ-loop
+letter-requires c κs = search needs
 
 slice-write-text : tie.Need-slice-write-text Inv-loop μ-loop
 slice-write-text c = search needs
@@ -41,7 +41,7 @@ loop-less c = omega arith
 loop-again : tie.Need-loop-again Inv-loop μ-loop
 loop-again c =
     let l = c .before .before .before .before .loop in
-    (respelled-turn _ _ _ _ _ _ (c .before .before .before .loop-test .taken) (c .before .small-at .ensures) (c .spelled .ensures) ∙ l .inv .0, simp length-set (l .inv .1))
+    (respelled-turn _ _ _ _ _ _ (c .before .before .before .loop-test .taken) (c .before .small-at .ensures) (c .letter .ensures) ∙ l .inv .0, simp length-set (l .inv .1))
 
 same-length : tie.Need-same-length Inv-loop μ-loop
 same-length c = c .before .loop .inv .1
@@ -58,7 +58,7 @@ respell-spec =
     loop-holds
     slice-read-byte
     small-at-requires
-    spelled-requires
+    letter-requires
     slice-write-text
     add-i
     loop-less
