@@ -24,7 +24,7 @@ enum {
     OPTIONS_AT = RAM_AT + RAM_BYTES,
     MEMORY_BYTES = OPTIONS_AT + OPTION_BYTES,
     NOWHERE = -1,
-    TRANSFER = 2048, /* the most data of a request */
+    TRANSFER = 2048, /* the most data of a request, and the step from block to block */
     TEXT_LIMIT = 60000,
     SETUP_DIGITS = 16,
     SETUP_FROM = 2, /* places in a request's line */
@@ -194,7 +194,7 @@ static int32_t block_place(const struct device *device, const struct work *work,
 {
     if (read_protected(work))
         return NOWHERE;
-    int32_t at = place(device->pointer + (number - 2) * length, length);
+    int32_t at = place(device->pointer + (number - 2) * TRANSFER, length);
     uint32_t least = at >= OPTIONS_AT ? OPTION_BYTES : 2;
     return length < least ? NOWHERE : at;
 }

@@ -9,6 +9,7 @@ import os
 import sys
 
 PAGE = 1024
+TRANSFER = 2048
 FLASH = 0x08000000
 IMAGE = hashlib.shake_128(b"figures").digest(16 * PAGE)
 DEFAULT_OPTIONS = b"\xAA" + b"\xFF" * 15
@@ -22,7 +23,12 @@ def download(value, data=b""):
     return line(bytes([0x21, 1]) + value.to_bytes(2, "little") + b"\0\0" + len(data).to_bytes(2, "little"), data)
 
 
+def upload(value, length):
+    return line(bytes([0xA1, 2]) + value.to_bytes(2, "little") + b"\0\0" + length.to_bytes(2, "little"))
+
+
 STATUS = line(bytes([0xA1, 3, 0, 0, 0, 0, 6, 0]))
+ABORT = line(bytes([0x21, 6, 0, 0, 0, 0, 0, 0]))
 
 
 def command(code, *address):
@@ -39,6 +45,15 @@ def plan(image):
     return text + command(0x21, FLASH) + download(0) + STATUS
 
 
+def blocks(image):
+    """A standard tool's job: full blocks with counting numbers, and the same read back."""
+    parts = [image[at : at + TRANSFER] for at in range(0, len(image), TRANSFER)]
+    text = "".join(command(0x41, FLASH + at) for at in range(0, len(image), PAGE)) + command(0x21, FLASH)
+    text += "".join(download(number, part) + 2 * STATUS for number, part in enumerate(parts, 2)) + ABORT
+    text += "".join(upload(number, len(part)) for number, part in enumerate(parts, 2)) + ABORT
+    return text + download(0) + STATUS
+
+
 def small(job):
     """A job with its hex fields in small letters. The front of a line stays a capital."""
     return "".join(line[0] + line[1:].lower() for line in job.splitlines(keepends=True))
@@ -50,6 +65,7 @@ def jobs():
     yield "plan", plan(IMAGE), IMAGE
     yield "plan-small", small(plan(IMAGE)), IMAGE
     yield "plan-half", plan(half), half
+    yield "blocks", blocks(IMAGE), IMAGE
     yield "erases", 900 * command(0x41), IMAGE
     yield "erases-half", 450 * command(0x41), IMAGE
     yield "status", 3000 * STATUS, IMAGE

@@ -1,18 +1,19 @@
--- Laws of `blockAddress`: the block number 0 and 1, and that it fits 64 bits. Assumes nothing.
+-- Laws of `blockAddress`: the blocks at the pointer. Assumes nothing.
 use mathlib.Core.Path.{_≡_}
-use Prim.Native.Nat.{ℕ, _-_, _*_, _≤_, _<_}
+use mathlib.Core.Bool.{Bool}
+use Prim.Native.Nat.{ℕ, _-_, _≤_}
 use native.Mathlib.Omega.{arith}
-use native.Mathlib.Nat.{mul-le-mul, zero-mul, zero-add}
-use Rattle.access.specs.Access.{blockAddress}
+use native.Mathlib.Nat.{zero-mul, zero-add}
+use Rattle.request.specs.Request.{transferBytes}
+use Rattle.access.specs.Access.{blockAddress, accessOf, blockAccess}
 
-pub address-low : (block count pointer : ℕ) → block < 2 → blockAddress block count pointer ≡ pointer
+pub address-at-pointer : (transfer block pointer : ℕ) → block ≤ 2 → blockAddress transfer block pointer ≡ pointer
 unfolding blockAddress
-address-low block count pointer h =
-    let z : block - 2 ≡ 0 = omega arith in
-    rw (z, zero-mul, zero-add)
+address-at-pointer transfer block pointer h =
+    let none : block - 2 ≡ 0 = omega arith in
+    rw (none, zero-mul, zero-add)
 
-pub offset-small : (block count : ℕ) → block < 65536 → count < 65536 → (block - 2) * count ≤ 65535 * 65535
-offset-small block count h k =
-    let b : block - 2 ≤ 65535 = omega arith in
-    let c : count ≤ 65535 = omega arith in
-    mul-le-mul b c
+-- what a plan's writes, all of block number 2, ask for
+pub second-access-at-pointer : (n : ℕ) (protected : Bool) (count pointer : ℕ) → blockAccess n protected 2 count pointer ≡ accessOf n protected pointer count
+unfolding blockAccess
+second-access-at-pointer n protected count pointer = rw (address-at-pointer transferBytes 2 pointer (omega arith))

@@ -8,6 +8,7 @@ use Rattle.board.specs.declared.Place.the-variants.{Flash, Ram, Options, Outsid
 use Rattle.board.specs.Layout.{flashBytes, ramFrom, optionsFrom, optionBytes, memoryBytes}
 use Rattle.board.specs.Span.{placeOf}
 use Rattle.board.proofs.Span.{Lies, place-lies}
+use Rattle.request.specs.Request.{transferBytes}
 use Rattle.access.specs.declared.Access.{Access}
 use Rattle.access.specs.declared.Access.the-variants.{Denied, InFlash, InRam, InOptions}
 use Rattle.access.specs.Access.{blockAddress, checkedOf, accessOf, blockAccess}
@@ -31,4 +32,4 @@ access-granted n false address count = checked-granted n count (placeOf n addres
 
 pub block-granted : (n : ℕ) (protected : Bool) (block count pointer : ℕ) → Granted n count (blockAccess n protected block count pointer)
 unfolding blockAccess
-block-granted n protected block count pointer = access-granted n protected (blockAddress block count pointer) count
+block-granted n protected block count pointer = access-granted n protected (blockAddress transferBytes block pointer) count

@@ -8,11 +8,12 @@ use Rattle.board.specs.Layout.{optionsFrom, optionBytes}
 use Rattle.board.specs.Span.{placeOf}
 use Rattle.access.specs.declared.Access.{Access}
 use Rattle.access.specs.declared.Access.the-variants.{Denied, InFlash, InRam, InOptions}
+use Rattle.request.specs.Request.{transferBytes}
 use Rattle.mode.specs.Wire.{errTARGET, errVENDOR}
 
--- "(wValue - 2) x wLength of this request + pointer"; reads and writes share it
+-- AN3156, Read Memory and Write Memory: "((wBlockNum - 2) x wTransferSize) + Address_Pointer"; reads and writes share it
 unfoldable pub blockAddress : ℕ → ℕ → ℕ → ℕ
-blockAddress block count pointer = (block - 2) * count + pointer
+blockAddress transfer block pointer = (block - 2) * transfer + pointer
 
 -- "it touches options and is not all 16 from their start"
 abbrev pub optionsAt : ℕ → ℕ → ℕ → Access
@@ -29,6 +30,6 @@ checkedOf n count Outside = Denied errTARGET
 unfoldable pub accessOf : ℕ → Bool → ℕ → ℕ → Access
 accessOf n protected address count = cond protected (Denied errVENDOR) (checkedOf n count (placeOf n address count))
 
--- what the block with this number and length may be used for: its address, then the checks; no other definition names the address
+-- CR 3, "(wValue - 2) x 2,048 + pointer": what a block may be used for, by its address and then the checks; no other rule names the address
 unfoldable pub blockAccess : ℕ → Bool → ℕ → ℕ → ℕ → Access
-blockAccess n protected block count pointer = accessOf n protected (blockAddress block count pointer) count
+blockAccess n protected block count pointer = accessOf n protected (blockAddress transferBytes block pointer) count

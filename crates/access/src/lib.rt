@@ -2,11 +2,13 @@
 ghost use mathlib.Core.Path.{_≡_};
 ghost use mathlib.Core.Bool.{cond};
 ghost use lib.Dec.{ltb};
+ghost use Rattle.request.specs.Request.{transferBytes};
 ghost use Rattle.mode.specs.Wire.{errTARGET};
 ghost use Rattle.access.specs.Access.{blockAddress, optionsAt, accessOf, blockAccess};
 use board::Board;
 use board::Place;
 use device::Device;
+use request::Setup;
 
 // What a span may be used for, with its place in the memory buffer.
 pub enum Access {
@@ -16,14 +18,14 @@ pub enum Access {
     InOptions(usize),
 }
 
-// The address of a block.
-pub fn block_address(block: u16, count: u16, pointer: u32) -> u64
-    ensures { λ r. ⌜ r ≡ blockAddress block count pointer ⌝ }
+// The address of a block: whole transfers lie before it, however long it is itself.
+pub fn block_address(block: u16, pointer: u32) -> u64
+    ensures { λ r. ⌜ r ≡ blockAddress transferBytes block pointer ⌝ }
 {
     if block < 2 {
         return pointer as u64;
     }
-    (block - 2) as u64 * count as u64 + pointer as u64
+    (block - 2) as u64 * Setup::TRANSFER as u64 + pointer as u64
 }
 
 // The checks that a read and a write share, in their order.
@@ -46,12 +48,7 @@ fn examine(board: Board, protected: bool, address: u64, count: u16) -> Access
 pub fn examine_block(board: Board, protected: bool, block: u16, count: u16, pointer: u32) -> Access
     ensures { λ r. ⌜ r ≡ blockAccess (board .pages) protected block count pointer ⌝ }
 {
-    examine(
-        board,
-        protected,
-        block_address(block, count, pointer),
-        count,
-    )
+    examine(board, protected, block_address(block, pointer), count)
 }
 
 // Flash and RAM are used by two bytes or more.

@@ -13,13 +13,13 @@ use Rattle.mode.specs.Table.{allowedOf}
 use Rattle.device.specs.State.{started, afterStatus, reportOf}
 use Rattle.states.specs.WellFormed.{inRegion, wellFormed}
 use Rattle.command.specs.Command.{commandOf}
-use Rattle.decision.specs.Decide.{commandedOf, downloadOf, decideOf}
+use Rattle.decision.specs.Decide.{commandedOf, downloadOf, uploadOf, decideOf}
 use Rattle.access.specs.Access.{blockAddress, accessOf, blockAccess}
 use Rattle.action.specs.Action.{actionOf}
 use Rattle.flash.specs.Flash.{each, blank, laid, stored, erased}
 use Rattle.loader.specs.declared.Event.the-variants as event
 use Rattle.loader.specs.Answer.{Outcome}
-use Rattle.loader.specs.Serve.{runOf, statusOf, serveOf}
+use Rattle.loader.specs.Serve.{runOf, statusOf, uploadedOf, serveOf}
 use Rattle.loader.specs.Step.{admittedOf, stepOf}
 use Rattle.refusal.specs.Order.{firstOf}
 use Rattle.line.specs.Event.{Event}
@@ -28,9 +28,9 @@ use Rattle.demand.specs.Verdict.{endFails}
 use Rattle.marks.specs.Area.{workBytes}
 use Rattle.judgement.specs.Judgement.{overOf, lowestFrom, endNumber, endVerdict, verdictOf}
 
--- compute the address of a block, by wValue, wLength and pointer; make requests of a board with this memory; check a job, for an image and a card
+-- compute the address of a block, by wValue and pointer; make requests of a board with this memory; check a job, for an image and a card
 pub data Deed : Type 0 where
-  locate : ℕ → ℕ → ℕ → Deed
+  locate : ℕ → ℕ → Deed
   ask : List (List ℕ) → List ℕ → Deed
   check : List Event → List ℕ → List ℕ → Deed
 
@@ -55,8 +55,8 @@ stateOf o = state (o .answer ++ take (getD (o .answer) 1 0) (o .reply)) (o .devi
 
 -- what a deed comes to: by the promises' own definitions, and by `verdictOf`, which the law `judged` ties to the promised verdict
 unfoldable pub found : Deed → Finding
-unfolding put filled spans placeOf lockedFrom wordFrom readProtected wordOf writeProtected outwardOf inwardOf requestOf setupOf dataLength fitsOf allowedOf afterStatus reportOf inRegion wellFormed commandOf commandedOf downloadOf decideOf blockAddress accessOf blockAccess actionOf each blank laid stored erased runOf statusOf serveOf firstOf admittedOf stepOf overOf endFails lowestFrom endNumber endVerdict verdictOf
-found (locate value count pointer) = address (blockAddress value count pointer)
+unfolding put filled spans placeOf lockedFrom wordFrom readProtected wordOf writeProtected outwardOf inwardOf requestOf setupOf dataLength fitsOf allowedOf afterStatus reportOf inRegion wellFormed commandOf commandedOf downloadOf uploadOf decideOf blockAddress accessOf blockAccess actionOf each blank laid stored erased runOf statusOf uploadedOf serveOf firstOf admittedOf stepOf overOf endFails lowestFrom endNumber endVerdict verdictOf
+found (locate value pointer) = address (blockAddress transferBytes value pointer)
 found (ask qs m) = stateOf (asked qs (attached m))
 found (check es image card) = judgement (verdictOf loggerPages es image card (replicate (workBytes loggerPages) 0))
 

@@ -1,12 +1,12 @@
 -- The bench cases marked P. Document 01, "Bench cases". Assumes nothing.
 use mathlib.Core.List.{List, [], _∷_, _++_}
 use Prim.Native.Nat.{ℕ}
-use lib.ListN.{replicate}
+use lib.ListN.{length, replicate}
 use Rattle.laws.specs.Bytes.{put, filled}
 use Rattle.board.specs.Layout.{defaults}
-use Rattle.request.specs.Spelled.{four, downloading, gettingStatus, clearingStatus}
+use Rattle.request.specs.Spelled.{four, downloading, uploading, gettingStatus, clearingStatus}
 use Rattle.mode.specs.declared.Mode.{Mode}
-use Rattle.mode.specs.declared.Mode.the-variants.{Idle, DownloadSync, DownloadBusy, Error, Rebooting}
+use Rattle.mode.specs.declared.Mode.the-variants.{Idle, DownloadSync, DownloadBusy, UploadIdle, Error, Rebooting}
 use Rattle.verdict.specs.declared.Verdict.the-variants.{End}
 use Rattle.bench.specs.Case.{Finding, locate, ask, check, address, state, judgement, Case, _⇒_}
 
@@ -42,6 +42,10 @@ done mode m = state (1 ∷ 6 ∷ 0 ∷ 100 ∷ 0 ∷ 0 ∷ 4 ∷ 0 ∷ []) 0 mod
 abbrev pub failing : ℕ → List ℕ → Finding
 failing status m = state (1 ∷ 6 ∷ status ∷ 0 ∷ 0 ∷ 0 ∷ 10 ∷ 0 ∷ []) status Error m
 
+-- a Reply with these bytes
+abbrev pub replied : List ℕ → Mode → List ℕ → Finding
+replied xs mode m = state (1 ∷ length xs ∷ xs) 0 mode m
+
 -- the answer Accepted
 abbrev pub accepted : Mode → List ℕ → Finding
 accepted mode m = state (0 ∷ []) 0 mode m
@@ -53,9 +57,10 @@ stalling m = state (2 ∷ []) 15 Error m
 -- the nine cases, in the document's order
 abbrev pub table : List Case
 table =
-    -- 1: block 3 of 512 bytes lies 512 bytes behind the pointer
-    (locate 3 512 0x08000000 ⇒ address 0x08000200 ∷
-    ask (downloading 3 (replicate 512 0x5A) ∷ gettingStatus ∷ []) allErased ⇒ done DownloadBusy (put 0x200 (replicate 512 0x5A) allErased) ∷ []) ∷
+    -- 1, as CR 3 has it: block 3 of 512 bytes lies 2,048 bytes behind the pointer, written and read
+    (locate 3 0x08000000 ⇒ address 0x08000800 ∷
+    ask (downloading 3 (replicate 512 0x5A) ∷ gettingStatus ∷ []) allErased ⇒ done DownloadBusy (put 0x800 (replicate 512 0x5A) allErased) ∷
+    ask (uploading 3 512 ∷ []) (put 0x800 (replicate 512 0x5A) allErased) ⇒ replied (replicate 512 0x5A) UploadIdle (put 0x800 (replicate 512 0x5A) allErased) ∷ []) ∷
     -- 2: the last 2,048 bytes of flash can be written; two bytes further on they cannot
     (ask (write 0x08003800 (replicate 2048 0x5A)) allErased ⇒ done DownloadBusy (put 0x3800 (replicate 2048 0x5A) allErased) ∷
     ask (write 0x08003802 (replicate 2048 0x5A)) allErased ⇒ failing 1 allErased ∷ []) ∷

@@ -29,7 +29,8 @@ use Rattle.command.specs.Command.{commandOf}
 use Rattle.decision.specs.Decide.{commandedOf, downloadOf, decideOf}
 use Rattle.action.specs.declared.Action.{Action}
 use Rattle.action.specs.declared.Action.the-variants.{Point, Erase, StoreFlash}
-use Rattle.access.specs.Access.{accessOf, blockAddress, blockAccess}
+use Rattle.access.specs.Access.{accessOf}
+use Rattle.access.proofs.Address.{second-access-at-pointer}
 use Rattle.action.specs.Action.{actionIn, actionOf, movedOf, rebootsOf}
 use Rattle.flash.specs.Flash.{stored}
 use Rattle.line.specs.Event.{Event}
@@ -162,10 +163,9 @@ module _ (n : ℕ) (es : List Event) (mode : Mode) (heard : isMode 0 mode ≡ fa
 
   -- w′ is the work area with the block in its place
   pub write-polled : (at : ℕ) (xs w w′ : List ℕ) (k : ℕ) → 2 ≤ length xs → length xs ≤ transferBytes → at + length xs ≤ flashBytes n → w′ ≡ put (blockFrom n) xs w → readProtected n w′ ≡ false → blockOf n (length xs) w′ ≡ xs → surely n (wordOf n w′) at (length xs) w′ ≡ true → overOf n (polled (download 2 xs) es) (resting mode (flashFirst + at)) w k ≡ overOf n es (resting DownloadIdle (flashFirst + at)) (stored (wordOf n w′) at xs w′) (suc (suc (suc k)))
-  unfolding blockAccess accessOf blockAddress
+  unfolding accessOf
   write-polled at xs w w′ k a b h e r block sure =
       let some : 1 ≤ length xs = omega arith in
-      let zero-block : (2 - 2) * length xs + (flashFirst + at) ≡ flashFirst + at = omega arith in
       polled-on n (download 2 xs) es mode (flashFirst + at) w w′ (stored (wordOf n w′) at xs w′) (Write 2 (length xs)) (StoreFlash at (length xs)) k
       (write-moves n mode (flashFirst + at) w heard free xs some b ∙ rw e)
-      (rw (r, zero-block, place-at n at (length xs) h, le-ltb (length xs) 2 a)) refl (rw (sure, block))
+      (rw (second-access-at-pointer n (readProtected n w′) (length xs) (flashFirst + at), r, place-at n at (length xs) h, le-ltb (length xs) 2 a)) refl (rw (sure, block))

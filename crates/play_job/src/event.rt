@@ -117,7 +117,7 @@ pub(crate) fn request(number: usize, pointer: u32, asked: Asked, out: &mut [u8])
     let setup = asked.setup;
     let aim = aim_of(asked);
     let command = aim.download;
-    let from = access::block_address(setup.value, setup.length, pointer) as usize;
+    let from = access::block_address(setup.value, pointer) as usize;
     let end = words::request(setup.request(), &mut name, 0);
     append::say(b"|", &mut name, end);
     sentence::fill(

@@ -48,7 +48,7 @@ fn moved(what: usize, block: u16, count: u16, pointer: u32) -> Deed {
         what,
         block,
         count,
-        from: access::block_address(block, count, pointer),
+        from: access::block_address(block, pointer),
         size: count,
     }
 }

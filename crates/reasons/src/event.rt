@@ -53,7 +53,7 @@ fn untimely(request: Request, mode: Mode) -> usize {
 
 // What is wrong with where a block lies.
 fn misplaced(pointer: u32, block: u16, count: u16) -> usize {
-    let from = access::block_address(block, count, pointer);
+    let from = access::block_address(block, pointer);
     let place = Board::LOGGER.place(from, count as u64);
     match place {
         Place::Outside => 6,

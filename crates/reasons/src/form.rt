@@ -61,7 +61,12 @@ fn mend(request: usize, length: u16) -> usize {
 pub(crate) fn correct(setup: Setup) {
     let request = number(setup);
     say::fill(
-        b"The loader stalls it, for [only DNLOAD, UPLOAD, GETSTATUS, CLRSTATUS, GETSTATE and ABORT are known to it. Correct type and code, or take the line out.|a DNLOAD has wIndex 0 and wLength 0 to 2048.|an UPLOAD has wIndex 0 and wLength 1 to 2048.|a GETSTATUS has wValue 0, wIndex 0 and wLength 6.|a CLRSTATUS has wValue 0, wIndex 0 and wLength 0.|a GETSTATE has wValue 0, wIndex 0 and wLength 1.|an ABORT has wValue 0, wIndex 0 and wLength 0.][| Correct the setup.| Write the bytes in two or more blocks.| Read the bytes in two or more blocks.]",
-        &[request, mend(request, setup.length)],
+        b"The loader stalls it, for [only DNLOAD, UPLOAD, GETSTATUS, CLRSTATUS, GETSTATE and ABORT are known to it. Correct type and code, or take the line out.|a DNLOAD has wIndex 0 and wLength 0 to #.|an UPLOAD has wIndex 0 and wLength 1 to #.|a GETSTATUS has wValue 0, wIndex 0 and wLength 6.|a CLRSTATUS has wValue 0, wIndex 0 and wLength 0.|a GETSTATE has wValue 0, wIndex 0 and wLength 1.|an ABORT has wValue 0, wIndex 0 and wLength 0.][| Correct the setup.| Write the bytes in two or more blocks.| Read the bytes in two or more blocks.]",
+        &[
+            request,
+            Setup::TRANSFER as usize,
+            Setup::TRANSFER as usize,
+            mend(request, setup.length),
+        ],
     );
 }

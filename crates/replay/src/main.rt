@@ -15,10 +15,6 @@ const TAPE_ROOM: usize = record::SIZE + record::LONGEST;
 
 const MEMORY_ROOM: usize = 18449;
 
-const BLOCK_ROOM: usize = 2049;
-
-const REPLY_ROOM: usize = 2049;
-
 // Lets the event happen, if the record is one, and prints what became of it.
 fn happen(
     device: Device,
@@ -97,8 +93,8 @@ fn replay(
 fn main() {
     let mut tape = [0u8; TAPE_ROOM];
     let mut memory = [0u8; MEMORY_ROOM];
-    let mut block = [0u8; BLOCK_ROOM];
-    let mut reply = [0u8; REPLY_ROOM];
+    let mut block = [0u8; scene::OTHERS];
+    let mut reply = [0u8; scene::OTHERS];
     let fd = feed::open();
     let events = replay(fd, &mut tape, &mut memory, &mut block, &mut reply);
     feed::finish(fd, b"events #\n", events);

@@ -5,15 +5,12 @@ use buffer::byte_at;
 use buffer::least;
 use device::Device;
 use numbers::lent;
+use request::Setup;
 use vectors::ramp;
 
 const MEMORY: u16 = 18448;
 
-const BLOCK: u16 = 2048;
-
-const REPLY: u16 = 2048;
-
-// The same as numbers of bytes to paint: memory, its flash, the option bytes at its end; block and reply buffer with
+// The same as a number of bytes to paint, with its flash and the option bytes at its end; the block or reply buffer with
 // the byte that is too much.
 const ALL: usize = 18448;
 
@@ -23,7 +20,7 @@ const OPTIONS: usize = 16;
 
 const OPTIONS_AT: usize = ALL - OPTIONS;
 
-const OTHERS: usize = 2049;
+pub const OTHERS: usize = Setup::TRANSFER as usize + 1;
 
 // What the step is lent: the device, a request of this length, and so much of each buffer; and the last record's kind.
 pub struct Lending {
@@ -95,8 +92,8 @@ pub(crate) fn after(lending: Lending, tape: &[u8]) -> Lending {
     match byte_at(tape, 0) {
         record::SCENE => Lending {
             memory: lent(byte_at(tape, 19), MEMORY),
-            block: lent(byte_at(tape, 20), BLOCK),
-            reply: lent(byte_at(tape, 21), REPLY),
+            block: lent(byte_at(tape, 20), Setup::TRANSFER),
+            reply: lent(byte_at(tape, 21), Setup::TRANSFER),
             ..empty()
         },
         record::DEVICE => Lending {

@@ -6,7 +6,7 @@ use Rattle.request.specs.declared.Setup.{Setup}
 use Rattle.request.specs.declared.Request.{Request}
 use Rattle.request.specs.declared.Request.the-variants.{Download, Upload, GetStatus, ClearStatus, GetState, Abort, Unknown}
 
--- column "Fields" of DNLOAD and UPLOAD: wLength up to 2,048; the block and reply buffers have that size too
+-- "DFU 1.1's wTransferSize is the device's own figure; ours is 2,048" (CR 3): the most of a wLength, the size of the block and reply buffers, the step from block to block
 abbrev pub transferBytes : ℕ
 transferBytes = 2048
 
@@ -14,7 +14,7 @@ transferBytes = 2048
 abbrev pub asksOf : Setup → ℕ → Bool
 asksOf s n = eqb (s .value) 0 && eqb (s .length) n
 
--- column "Fields" of UPLOAD: wLength 1 to 2,048
+-- column "Fields" of UPLOAD: wLength 1 up to the transfer size
 abbrev pub readsOf : Setup → Bool
 readsOf s = leb 1 (s .length) && leb (s .length) transferBytes
 

@@ -15,6 +15,10 @@ four x = x % 256 ∷ x / 256 % 256 ∷ x / 65536 % 256 ∷ x / 16777216 % 256 �
 abbrev pub downloading : ℕ → List ℕ → List ℕ
 downloading value xs = 0x21 ∷ 1 ∷ (two value ++ (0 ∷ 0 ∷ (two (length xs) ++ xs)))
 
+-- UPLOAD with this wValue and this wLength
+abbrev pub uploading : ℕ → ℕ → List ℕ
+uploading value count = 0xA1 ∷ 2 ∷ (two value ++ (0 ∷ 0 ∷ two count))
+
 -- GETSTATUS
 abbrev pub gettingStatus : List ℕ
 gettingStatus = 0xA1 ∷ 3 ∷ 0 ∷ 0 ∷ 0 ∷ 0 ∷ 6 ∷ 0 ∷ []

@@ -43,7 +43,7 @@ fn pair(low: u8, high: u8) -> u16
 }
 
 impl Setup {
-    // The most bytes of data that one request carries.
+    // The transfer size: the most data of a request, the size of the buffers lent for it, the step from block to block.
     pub const TRANSFER: u16 = 2048;
 
     // The first eight bytes of a request; bytes that are not there count as 0.

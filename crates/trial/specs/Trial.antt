@@ -93,7 +93,7 @@ targetOf pointer (SetPointer address) = 0
 targetOf pointer (ErasePage address) = 0
 targetOf pointer MassErase = 0
 targetOf pointer ReadUnprotect = 0
-targetOf pointer (Write block count) = blockAddress block count pointer % flashFirst
+targetOf pointer (Write block count) = blockAddress transferBytes block pointer % flashFirst
 
 -- what the memory is like then: read protection, the first byte in the way of the write that waits, the first option that is not the card's
 unfoldable pub surveyed : Scene → List ℕ → List ℕ → Scene

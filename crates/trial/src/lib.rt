@@ -192,7 +192,7 @@ fn aim(pointer: u32, pending: Pending) -> usize
         Pending::MassErase => 0,
         Pending::ReadUnprotect => 0,
         Pending::Write { block, count } => {
-            (access::block_address(block, count, pointer) % Board::FLASH as u64) as usize
+            (access::block_address(block, pointer) % Board::FLASH as u64) as usize
         }
     }
 }
