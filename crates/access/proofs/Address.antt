@@ -1,10 +1,9 @@
 -- Laws of `blockAddress`: the blocks at the pointer. Assumes nothing.
-use mathlib.Core.Path.{_≡_}
+use mathlib.Core.Path.{_≡_, ap}
 use mathlib.Core.Bool.{Bool}
 use Prim.Native.Nat.{ℕ, _-_, _≤_}
 use native.Mathlib.Omega.{arith}
 use native.Mathlib.Nat.{zero-mul, zero-add}
-use Rattle.request.specs.Request.{transferBytes}
 use Rattle.access.specs.Access.{blockAddress, accessOf, blockAccess}
 
 pub address-at-pointer : (transfer block pointer : ℕ) → block ≤ 2 → blockAddress transfer block pointer ≡ pointer
@@ -16,4 +15,4 @@ address-at-pointer transfer block pointer h =
 -- what a plan's writes, all of block number 2, ask for
 pub second-access-at-pointer : (n : ℕ) (protected : Bool) (count pointer : ℕ) → blockAccess n protected 2 count pointer ≡ accessOf n protected pointer count
 unfolding blockAccess
-second-access-at-pointer n protected count pointer = rw (address-at-pointer transferBytes 2 pointer (omega arith))
+second-access-at-pointer n protected count pointer = ap (λ (address : ℕ). accessOf n protected address count) (address-at-pointer _ 2 pointer (omega arith))

@@ -8,12 +8,11 @@ use Rattle.board.specs.declared.Place.{Place}
 use Rattle.board.specs.declared.Place.the-variants.{Flash, Ram, Options, Outside}
 use Rattle.board.specs.Layout.{optionsFrom, optionBytes}
 use Rattle.board.specs.Span.{placeOf}
-use Rattle.request.specs.Request.{transferBytes}
 use Rattle.mode.specs.declared.Mode.the-variants.{Error}
 use Rattle.states.specs.WellFormed.{statusFits}
 use Rattle.access.specs.declared.Access.{Access}
 use Rattle.access.specs.declared.Access.the-variants.{Denied, InFlash, InRam, InOptions}
-use Rattle.access.specs.Access.{blockAddress, checkedOf, accessOf, blockAccess}
+use Rattle.access.specs.Access.{checkedOf, accessOf, blockAccess}
 
 abbrev pub Refusing : Access → Type 0
 Refusing (Denied status) = statusFits Error status ≡ true
@@ -34,4 +33,4 @@ access-refusing n false address count = checked-refusing n count (placeOf n addr
 
 pub block-refusing : (n : ℕ) (protected : Bool) (block count pointer : ℕ) → Refusing (blockAccess n protected block count pointer)
 unfolding blockAccess
-block-refusing n protected block count pointer = access-refusing n protected (blockAddress transferBytes block pointer) count
+block-refusing n protected block count pointer = access-refusing n protected _ count

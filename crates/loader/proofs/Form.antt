@@ -85,9 +85,7 @@ module _ (n : ℕ) (d : Device) (m b y : List ℕ) (f : Form n d) where
   acted-form (decided.Accept next) q h = h
   acted-form (decided.Take next) q h = h
   acted-form (decided.Commands next count) q h = h
-  acted-form decided.Read q h =
-      let s = setupOf q in
-      read-at-form (blockAccess n (readProtected n m) (s .value) (s .length) (d .pointer)) (s .length) (block-refusing n (readProtected n m) (s .value) (s .length) (d .pointer)) h
+  acted-form decided.Read q h = read-at-form (blockAccess n (readProtected n m) _ _ _) (setupOf q .length) (block-refusing _ _ _ _ _) h
   acted-form decided.State q h = f
   acted-form decided.Status q h = status-form
 
