@@ -19,7 +19,7 @@ import checker
 import loader
 from check_parts import PARTS, SMALL
 from jobs import ERASED, MARKED, NO_MORE_JOBS, Job, judged, printed, ramp_fill
-from loader import DEFAULT_OPTIONS, FLASH, PAGE, RAM
+from loader import DEFAULT_OPTIONS, FLASH, PAGE, RAM, TRANSFER_SIZE
 from tape import CODE_NAMES, IN, OUT, RIGHT
 from walks import Dice
 
@@ -68,7 +68,7 @@ def place_of(spot, image):
 def failure_words(events, number, card):
     """Which request fails, in which mode and how, on a board whose flash is all zeros."""
     memory = bytearray(FLASH.size + RAM.size) + card
-    block, reply = bytearray(loader.BLOCK_SIZE), bytearray(loader.REPLY_SIZE)
+    block, reply = bytearray(TRANSFER_SIZE), bytearray(TRANSFER_SIZE)
     device = loader.attached()
     for event in events[:number]:
         before = device

@@ -1,7 +1,7 @@
 """A model of the job checker, for test vectors.
 
-It was written from document 01 and change request 2 and from nothing else, and shares no code and no
-table with the proved crates. It decides each job twice:
+It was written from document 01 and change requests 2 and 3 and from nothing else, and shares no code and
+no table with the proved crates. It decides each job twice:
 
 - `Run` follows the job once for all boards: a byte of flash is a number that every board has there by
   now, or still the board's own.
@@ -16,7 +16,7 @@ from collections import namedtuple
 import loader
 from loader import (
     ATTACH, DEFAULT_OPTIONS, DNBUSY, DNLOAD_IDLE, DNLOAD_SYNC, ERASED, FLASH, IDLE, LEFT, MANIFEST_SYNC, OPTIONS,
-    PAGE, PAGES, RAM, REBOOTING, SETUP_SIZE, UPLOAD_IDLE, region_of)
+    PAGE, PAGES, RAM, REBOOTING, SETUP_SIZE, TRANSFER_SIZE, UPLOAD_IDLE, region_of)
 
 WORK_SIZE = 38944
 MOST_IMAGE = 16384
@@ -144,7 +144,7 @@ class Run:
     # --- "DNLOAD"
 
     def download(self, value, data):
-        if self.mode not in (IDLE, DNLOAD_IDLE) or len(data) > 2048:
+        if self.mode not in (IDLE, DNLOAD_IDLE) or len(data) > TRANSFER_SIZE:
             return False
         if len(data) == 0:
             self.mode = MANIFEST_SYNC
@@ -208,7 +208,7 @@ class Run:
 
     def reached(self, value, length):
         """The region and the first address of a block that may be read or written; else no region."""
-        address = (value - 2) * length + self.pointer
+        address = self.pointer + TRANSFER_SIZE * (value - 2)
         region = region_of(address, length)
         if self.read_protected():
             region = None
@@ -236,7 +236,7 @@ class Run:
         return True
 
     def upload(self, value, length):
-        if self.mode not in (IDLE, UPLOAD_IDLE) or not 1 <= length <= 2048 or value == 1:
+        if self.mode not in (IDLE, UPLOAD_IDLE) or not 1 <= length <= TRANSFER_SIZE or value == 1:
             return False
         self.mode = IDLE if value == 0 else UPLOAD_IDLE
         return value == 0 or self.reached(value, length)[0] is not None
@@ -287,7 +287,7 @@ def failed(event, answer, reply):
 def lived(events, image, card, flash, ram):
     """What becomes of the board with these contents: the verdict as if there were no other board."""
     memory = bytearray(flash + ram + bytes(card))
-    block, reply = bytearray(loader.BLOCK_SIZE), bytearray(loader.REPLY_SIZE)
+    block, reply = bytearray(TRANSFER_SIZE), bytearray(TRANSFER_SIZE)
     device = loader.attached()
     for number, event in enumerate(events, 1):
         device, answer = loader.step(device, event, memory, block, reply)

@@ -1,9 +1,10 @@
 """A model of the DFU loader, for test vectors.
 
-It was written from document 01 (and the notes that it names) and from nothing else: it shares no
-code and no table with the proved crates. Titles in quotation marks in the comments are the
-headings and bold words of document 01, in its order. It is meant to be read beside that document,
-so it prefers the plain way of saying a thing to the fast one.
+It was written from document 01 (and the notes that it names), from change request 3, whose block
+address it has, and from nothing else: it shares no code and no table with the proved crates. Titles
+in quotation marks in the comments are the headings and bold words of document 01, in its order. It
+is meant to be read beside that document, so it prefers the plain way of saying a thing to the fast
+one.
 """
 
 from collections import namedtuple
@@ -20,8 +21,10 @@ OPTIONS = Region("options", 0x1FFFF800, 16, 18432)
 REGIONS = (FLASH, RAM, OPTIONS)
 
 MEMORY_SIZE = 18448
-BLOCK_SIZE = 2048
-REPLY_SIZE = 2048
+
+# DFU 1.1's wTransferSize, the device's own figure: so long are the block and reply buffers and the longest data
+# stage, and so far apart lie the blocks.
+TRANSFER_SIZE = 2048
 
 ERASED = 0xFF
 NOT_READ_PROTECTED = 0xAA
@@ -73,7 +76,7 @@ def well_formed(device):
     if (device.pending is not None) != (device.mode == DNLOAD_SYNC):
         return False
     if device.pending is not None and device.pending.kind == WRITE:
-        if device.pending.block < 2 or not 1 <= device.pending.length <= BLOCK_SIZE:
+        if device.pending.block < 2 or not 1 <= device.pending.length <= TRANSFER_SIZE:
             return False
     if device.mode == ERROR:
         return device.status in (ERR_TARGET, ERR_WRITE, ERR_VENDOR, ERR_STALLED)
@@ -109,9 +112,9 @@ def refusal(device, event, memory, block, reply):
     """ "Refusal numbers" of a step: the first that applies, or 0. Only a request can have 5."""
     if len(memory) != MEMORY_SIZE:
         return 1
-    if len(block) != BLOCK_SIZE:
+    if len(block) != TRANSFER_SIZE:
         return 2
-    if len(reply) != REPLY_SIZE:
+    if len(reply) != TRANSFER_SIZE:
         return 3
     if not well_formed(device):
         return 4
@@ -151,8 +154,8 @@ Request = namedtuple("Request", "name type code values lengths modes")
 ANY = range(65536)
 ZERO = range(1)
 REQUESTS = (
-    Request("DNLOAD", 0x21, 1, ANY, range(0, 2049), (IDLE, DNLOAD_IDLE)),
-    Request("UPLOAD", 0xA1, 2, ANY, range(1, 2049), (IDLE, UPLOAD_IDLE)),
+    Request("DNLOAD", 0x21, 1, ANY, range(0, TRANSFER_SIZE + 1), (IDLE, DNLOAD_IDLE)),
+    Request("UPLOAD", 0xA1, 2, ANY, range(1, TRANSFER_SIZE + 1), (IDLE, UPLOAD_IDLE)),
     Request("GETSTATUS", 0xA1, 3, ZERO, (6,), WIRE_MODES),
     Request("CLRSTATUS", 0x21, 4, ZERO, ZERO, (ERROR,)),
     Request("GETSTATE", 0xA1, 5, ZERO, (1,), tuple(m for m in WIRE_MODES if m != DNBUSY)),
@@ -250,7 +253,7 @@ def run_pending(device, memory, block):
     elif what.kind == READ_UNPROTECT:
         status, reboots = read_unprotect(memory), True
     else:
-        address = block_address(what.block, what.length, pointer)
+        address = block_address(what.block, pointer)
         status = write(memory, address, block[: what.length])
         reboots = region_of(address) is OPTIONS
     if status != OK:
@@ -268,7 +271,7 @@ def upload(device, setup, data, memory, block, reply):
         return device._replace(mode=IDLE), answer_with(reply, COMMANDS[: setup.length])
     if setup.value == 1:
         raise Stall
-    address = block_address(setup.value, setup.length, device.pointer)
+    address = block_address(setup.value, device.pointer)
     status = access_status(memory, address, setup.length)
     if status != OK:
         raise Stall(status)
@@ -279,8 +282,9 @@ def upload(device, setup, data, memory, block, reply):
 # --- "Address", and the checks of reads and writes ---------------------------------------------------
 
 
-def block_address(number, length, pointer):
-    return (number - 2) * length + pointer
+def block_address(number, pointer):
+    """The block's own length has no say in it: a short one lies where a full one would."""
+    return (number - 2) * TRANSFER_SIZE + pointer
 
 
 def access_status(memory, address, length):

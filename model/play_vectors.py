@@ -14,7 +14,7 @@ sys.dont_write_bytecode = True
 
 import loader
 from job import line_of
-from loader import FLASH, OPTIONS, PAGE, PAGES, RAM
+from loader import FLASH, OPTIONS, PAGE, PAGES, RAM, TRANSFER_SIZE
 
 OUT, IN = 0x21, 0xA1
 
@@ -118,7 +118,7 @@ def purpose(device, name, setup, data):
     if setup.value == 1:
         return ""
     way = ", write to 0x%08X" if name == "DNLOAD" else ", read from 0x%08X"
-    return way % loader.block_address(setup.value, setup.length, device.pointer)
+    return way % loader.block_address(setup.value, device.pointer)
 
 
 def answer_words(answer):
@@ -142,7 +142,7 @@ def differences(old, new, lead):
 
 
 def played(events, board):
-    memory, block, reply = bytearray(board), bytearray(loader.BLOCK_SIZE), bytearray(loader.REPLY_SIZE)
+    memory, block, reply = bytearray(board), bytearray(TRANSFER_SIZE), bytearray(TRANSFER_SIZE)
     device, text = loader.attached(), ""
     for number, event in enumerate(events, 1):
         before = bytes(memory)

@@ -26,9 +26,9 @@ import collections
 
 import loader
 from loader import (
-    ATTACH, BLOCK_SIZE, DEFAULT_OPTIONS, DNBUSY, DNLOAD_IDLE, DNLOAD_SYNC, ERASE_PAGE, ERROR, FLASH, IDLE,
-    LEFT, MANIFEST_SYNC, MASS_ERASE, MEMORY_SIZE, OPTIONS, READ_UNPROTECT, REBOOTING, REPLY_SIZE, SET_POINTER,
-    SETUP_SIZE, UPLOAD_IDLE, WRITE, Device, Pending)
+    ATTACH, DEFAULT_OPTIONS, DNBUSY, DNLOAD_IDLE, DNLOAD_SYNC, ERASE_PAGE, ERROR, FLASH, IDLE, LEFT,
+    MANIFEST_SYNC, MASS_ERASE, MEMORY_SIZE, OPTIONS, READ_UNPROTECT, REBOOTING, SET_POINTER, SETUP_SIZE,
+    TRANSFER_SIZE, UPLOAD_IDLE, WRITE, Device, Pending)
 
 RECORD = 48
 SCENE, DEVICE, ATTACHED, REQUEST, POKE = range(5)
@@ -121,8 +121,8 @@ class Tape:
         self.memory[OPTIONS.offset : OPTIONS.offset + room] = options[:room]
         if memory == LONG:
             self.memory[MEMORY_SIZE] = LONG_MEMORY_BYTE
-        self.block = ramp(sized(block, BLOCK_SIZE), 3, seed)
-        self.reply = ramp(sized(reply, REPLY_SIZE), 5, seed)
+        self.block = ramp(sized(block, TRANSFER_SIZE), 3, seed)
+        self.reply = ramp(sized(reply, TRANSFER_SIZE), 5, seed)
         self.now = loader.attached()
         lengths = (memory, block, reply)
         self.put(SCENE, {1: [pattern, seed], 3: options, 19: lengths},
