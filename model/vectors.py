@@ -16,7 +16,7 @@ sys.dont_write_bytecode = True
 import loader
 from loader import (
     DNLOAD_IDLE, DNLOAD_SYNC, ERASE_PAGE, ERROR, FLASH, IDLE, LEFT, MASS_ERASE, OPTIONS, PAGE, PAGES,
-    RAM, READ_UNPROTECT, REBOOTING, REGIONS, SET_POINTER, SETUP_SIZE, UPLOAD_IDLE, WRITE, Pending)
+    RAM, READ_UNPROTECT, REBOOTING, REGIONS, SET_POINTER, SETUP_SIZE, TRANSFER_SIZE, UPLOAD_IDLE, WRITE, Pending)
 from tape import (
     ABORT, CLRSTATUS, DETACH, DNLOAD, EMPTY, GETSTATE, GETSTATUS, IN, LONG, MASS, MODES, OUT, RIGHT, SHORT,
     UNPROTECT, UPLOAD, Tape, card, erase_page, set_pointer)
@@ -27,7 +27,7 @@ from walks import walks
 
 def bench_cases(t):
     t.scene(pattern=0)
-    t.do(3, length=512, seed=1)  # goes to 0x08000200
+    t.do(3, length=512, seed=1)  # goes to 0x08000800
     t.abort()
     t.upload(3, 512)
     for address in (0x08003800, 0x08003802):
@@ -67,6 +67,23 @@ def plan_job(t):
         t.do(0, polls=1)
         t.get_status()
         t.abort()
+
+
+def tool_job(t):
+    """A standard DFU tool's job: two full blocks and a short one, read back. Then the short one's page is locked."""
+    blocks = ((2, 2048), (3, 2048), (4, 904))
+    for mask in (0xFFFF, 0xFFEF):
+        t.scene(pattern=2, seed=1, options=card(mask))
+        for page in range(5):
+            t.do(0, erase_page(FLASH.first + page * PAGE))
+        t.do(0, set_pointer(FLASH.first))
+        for number, length in blocks:
+            t.do(number, length=length, seed=number)
+        t.abort()
+        for number, length in blocks:
+            t.upload(number, length)
+        t.abort()
+        t.do(0, polls=1)
 
 
 def traps(t):
@@ -188,7 +205,7 @@ REQUESTS = (
 def matrix(t):
     """On a board where a write to flash would go through."""
     for mode, status, pending in states():
-        t.scene(pattern=3, seed=3, options=card(0xFFFB))
+        t.scene(pattern=3, seed=3, options=card(0xFFFD))
         for type, code, value, index, length, given in REQUESTS:
             t.device(mode, status, pending=pending)
             t.request(type, code, value, index, length, given, seed=4)
@@ -323,27 +340,58 @@ def erases(t):
 
 def spans():
     """Pointer, block number and length of reads and writes at and about the edges of the regions."""
+    yield from spans_by_pointer()
+    yield from spans_in_flash()
+    yield from spans_in_ram()
+    yield from spans_far_off()
+
+
+def spans_by_pointer():
+    """Block 2, which lies where the pointer is."""
     for region in REGIONS:
         first, end = region.first, region.first + region.size
         for length in (1, 2, 3, 15, 16, 17, 1023, 1024, 1025, 2047, 2048):
             for start in sorted({first, first + 1, end - length - 1, end - length, end - length + 1, end - 1}):
                 if loader.region_of(start) is region:
                     yield start, 2, length
+
+
+def spans_in_flash():
+    """From the first address of flash it holds blocks 2 to 9; a short block lies where a full one would."""
+    flash = FLASH.first
+    for number in range(3, 11):
+        for length in (1, 2, 512, 2047, 2048):
+            yield flash, number, length
+    for number, length in ((3, 3), (3, 1024), (3, 2046), (9, 3), (9, 1024), (9, 2046)):
+        yield flash, number, length
+    for by in (1, 2, 3, 512, 1024, 2045, 2046, 2047):  # up to the last byte of flash, and a byte past it
+        yield flash + by, 9, 2048 - by
+        yield flash + by, 9, 2049 - by
+    yield from (
+        (flash + 1023, 3, 2), (flash + 5000, 5, 904), (flash + 2048, 8, 2048), (flash + 2048, 9, 2),
+        (flash + 12288, 3, 2048), (flash + 12289, 3, 2048), (flash + 14336, 3, 2), (flash + 16383, 3, 2))
+
+
+def spans_in_ram():
+    """RAM is one block long, and begins one block behind the options: it is their block 3."""
+    ram, options = RAM.first, OPTIONS.first
+    yield from ((ram, 3, 2), (ram, 3, 2048), (ram + 2047, 3, 1), (ram + 2047, 3, 2), (ram, 4, 16))
+    for by in range(OPTIONS.size):  # up to the last byte of RAM, and a byte past it
+        yield options + by, 3, 2048 - by
+        if by > 0:
+            yield options + by, 3, 2049 - by
+    yield from (
+        (options, 3, 1), (options, 3, 2), (options, 3, 15), (options, 3, 16), (options + 15, 3, 1),
+        (options + 15, 3, 2), (options, 4, 2), (options, 4, 16), (options + 15, 4, 2048), (options + 8, 2, 8))
+
+
+def spans_far_off():
+    """Blocks outside every region; a number or a product without its upper bits would lead back into one."""
     flash, ram, options = FLASH.first, RAM.first, OPTIONS.first
-    yield from (
-        (flash, 3, 512), (flash, 33, 512), (flash, 34, 512), (flash, 9, 2048), (flash, 10, 2048),
-        (flash + 1, 9, 2048), (flash + 2, 9, 2048), (flash, 8193, 2), (flash, 8194, 2), (flash, 16385, 1),
-        (flash, 65535, 2), (flash, 65535, 2048), (flash + 16383, 65535, 2048))
-    yield from (
-        (ram, 3, 1024), (ram, 4, 1024), (ram, 3, 2), (ram, 1025, 2), (ram, 1026, 2), (ram + 2047, 3, 2),
-        (ram, 65535, 2048))
-    # RAM is within reach of a pointer into the options.
-    yield from (
-        (options, 3, 16), (options, 129, 16), (options, 130, 16), (options, 3, 2047), (options, 3, 2048),
-        (options + 14, 3, 2033), (options + 15, 3, 2033), (options + 15, 3, 2034), (options + 1, 3, 15),
-        (options + 15, 2, 1), (options + 8, 2, 8), (options, 258, 8), (options, 1026, 2), (options, 65535, 2048))
-    # Products that a narrow number would lose.
-    yield from ((flash, 34, 2048), (flash, 8194, 2048), (flash, 32770, 2048), (ram, 34, 2048))
+    for bit in (4, 5, 6, 7, 8, 9, 13, 15):
+        number = 2 + 2**bit
+        yield from ((flash, number, 2048), (ram, number, 2), (options, number, 16), (options, number + 1, 16))
+    yield from ((flash, 65535, 2), (flash + 16383, 65535, 2048), (ram + 2047, 65535, 2048), (options, 65535, 16))
 
 
 def reads(t):
@@ -361,17 +409,18 @@ def writes(t):
 
 
 def lengths(t):
-    """Downloads and uploads over lengths and block numbers."""
+    """Downloads and uploads over lengths and block numbers; RAM has no block 3, but is the options' block 3."""
     numbers = (0, 1, 2, 3, 256, 257, 65535)
-    for pointer in (FLASH.first, RAM.first):
-        for number in numbers:
-            t.scene(pattern=3, seed=80 + number % 7)
+    for pointer, some in ((FLASH.first, numbers), (RAM.first, numbers), (OPTIONS.first, (3,))):
+        for number in some:
             for length in (0, 1, 2, 5, 15, 16, 17, 1023, 1024, 1025, 2047, 2048, 2049):
+                t.scene(pattern=3, seed=80 + number % 7)
                 t.device(DNLOAD_IDLE if length % 2 else IDLE, pointer=pointer)
                 t.do(number, length=length, seed=length % 256, polls=1)
+    t.scene(pattern=2, seed=87)
     for number in numbers:
         for length in (0, 1, 2, 3, 4, 5, 15, 16, 17, 1023, 1024, 1025, 2047, 2048, 2049, 65535):
-            t.device(UPLOAD_IDLE if length % 2 else IDLE, pointer=RAM.first)
+            t.device(UPLOAD_IDLE if length % 2 else IDLE, pointer=FLASH.first)
             t.upload(number, length)
 
 
@@ -388,7 +437,7 @@ def commands(t):
 
 
 def pages(t):
-    """Writes over page borders: each lock, and one byte that is not blank in or beside the span."""
+    """Writes over page borders, by number where they can: each lock, and a byte not blank in or beside the span."""
     for at, length in ((PAGE - 2, 4), (PAGE - 1, 2), (PAGE, 2), (512, 2048), (15 * PAGE - 2, 4),
                        (14 * PAGE, 2048), (7 * PAGE + 1000, 1100)):
         end = at + length
@@ -396,12 +445,14 @@ def pages(t):
         spots = sorted({at - 1, at, at + length // 2, last * PAGE - 1, last * PAGE, end - 1, end % FLASH.size})
         second = 2 ** (first + 1) % 2**PAGES
         masks = (0xFFFF, 0xFFFF - 2**first, 0xFFFF - 2**last, 0xFFFF - second, 2**first, 0x0000)
+        pointer = FLASH.first + at % TRANSFER_SIZE
+        write = Pending(WRITE, block=2 + at // TRANSFER_SIZE, length=length)
         for mask in masks:
             for number, spot in enumerate([None] + spots):
                 t.scene(pattern=0, seed=100 + number, options=card(mask))
                 if spot is not None:
                     t.poke(spot, (0xFE, 0x00, 0x7F)[number % 3])
-                t.device(DNLOAD_SYNC, pointer=FLASH.first + at, pending=Pending(WRITE, block=2, length=length))
+                t.device(DNLOAD_SYNC, pointer=pointer, pending=write)
                 t.get_status()
 
 
@@ -449,9 +500,10 @@ def options_writes(t):
     for options in (card(), card(0xFFFE), card(0x0000), card(0xFFFF, 0x00), card(0x00FF, 0xAB, 0x11)):
         t.scene(pattern=2, seed=110, options=card(0xF0F0, 0xAA, 0x22))
         t.do(0, set_pointer(OPTIONS.first))
-        for number, given in ((2, options[:15]), (2, options + b"\xFF"), (3, options), (2, options[:1])):
+        for number, given in ((2, options[:15]), (2, options + b"\xFF"), (4, options), (2, options[:1])):
             t.do(number, given, polls=1)
             t.clear()
+        t.do(3, options)  # RAM begins a block behind the options: no reboot
         for wrong in (OPTIONS.first + 1, OPTIONS.first + 15):
             t.do(0, set_pointer(wrong))
             t.do(2, options, polls=1)
@@ -503,8 +555,8 @@ def long_walks(t):
     walks(t, REQUESTS)
 
 
-PARTS = (bench_cases, plan_job, traps, matrix, unknown, attaches, orders, ill_formed, shapes, addresses, erases,
-         reads, writes, lengths, commands, pages, protected, options_writes, unprotects, leaves, long_walks)
+PARTS = (bench_cases, plan_job, tool_job, traps, matrix, unknown, attaches, orders, ill_formed, shapes, addresses,
+         erases, reads, writes, lengths, commands, pages, protected, options_writes, unprotects, leaves, long_walks)
 
 # --- the program --------------------------------------------------------------------------------------------
 

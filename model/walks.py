@@ -1,7 +1,7 @@
 """Long walks: mostly what a host would send, with damage here and there."""
 
 from loader import DNBUSY, DNLOAD_IDLE, DNLOAD_SYNC, ERROR, FLASH, LEFT, MANIFEST_SYNC, OPTIONS, PAGE, PAGES
-from loader import RAM, REBOOTING, REGIONS, UPLOAD_IDLE
+from loader import RAM, REBOOTING, REGIONS, TRANSFER_SIZE, UPLOAD_IDLE
 from tape import DNLOAD, GETSTATUS, IN, MASS, OUT, UNPROTECT, card, erase_page, set_pointer
 
 TURNS = 150
@@ -52,24 +52,38 @@ def erase_some(t, dice):
 
 
 def write_some(t, dice):
-    """A block of flash, mostly with the erase and the set pointer that it needs."""
+    """Some bytes of flash, mostly with the erase and the set pointer that they need."""
     at = dice.roll(PAGES) * PAGE
     if dice.roll(4):
         t.do(0, erase_page(FLASH.first + at))
     t.do(0, set_pointer(FLASH.first + at + dice.pick((0, 0, 2, 512, 1022))))
     if t.now.mode == DNLOAD_IDLE:
         length = dice.pick((2, 3, 16, 256, 512, 1024, 2048))
-        t.do(dice.pick((2, 2, 2, 3, 4)), length=length, seed=dice.roll(256))
+        t.do(dice.pick((2, 2, 2, 2, 3)), length=length, seed=dice.roll(256))
+
+
+def write_block(t, dice):
+    """A full or short block by its number, as a standard tool sends it, mostly with the erases that it needs."""
+    block = dice.roll(FLASH.size // TRANSFER_SIZE)
+    length = dice.pick((2, 3, 100, 1024, 1500, 2047, 2048, 2048))
+    if dice.roll(4):
+        for at in range(block * TRANSFER_SIZE, block * TRANSFER_SIZE + length, PAGE):
+            t.do(0, erase_page(FLASH.first + at))
+    t.do(0, set_pointer(FLASH.first + dice.pick((0, 0, 0, 1))))
+    if t.now.mode == DNLOAD_IDLE:
+        t.do(2 + block, length=length, seed=dice.roll(256))
 
 
 def write_ram(t, dice):
-    t.do(0, set_pointer(RAM.first + dice.roll(RAM.size)))
+    """By block 2, or by block 3 of the options, a block behind which RAM begins."""
+    region, number = dice.pick(((RAM, 2), (RAM, 2), (OPTIONS, 3)))
+    t.do(0, set_pointer(region.first + dice.roll(region.size)))
     if t.now.mode == DNLOAD_IDLE:
-        t.do(2 + dice.roll(3), length=1 + dice.roll(600), seed=dice.roll(256))
+        t.do(number, length=1 + dice.roll(600), seed=dice.roll(256))
 
 
 def read_some(t, dice):
-    t.upload(dice.pick((0, 2, 2, 3, 5)), dice.pick((2, 4, 16, 100, 1024, 2048)))
+    t.upload(dice.pick((0, 2, 2, 3, 2 + dice.roll(9))), dice.pick((2, 4, 16, 100, 1024, 2048)))
 
 
 def point(t, dice):
@@ -100,7 +114,7 @@ def rare(t, dice):
     dice.pick((leave, new_options, erase_all, unprotect))(t, dice)
 
 
-HOST = (erase_some, write_some, write_some, write_some, write_ram, read_some, read_some, point, rare)
+HOST = (erase_some, write_some, write_block, write_block, write_ram, read_some, read_some, point, rare)
 
 
 def damage(t, dice, requests):
