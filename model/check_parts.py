@@ -5,9 +5,9 @@ import vectors
 from check_walks import blocks_of, random_jobs, shuffled
 from jobs import (
     ABORTED, ATTACH, CLEAR, STATE, STATUS, Image, Many, Ramp, dnload, do, erase, go, leave, load, options, page_of,
-    plan, point, put, request, spelled, upload)
-from loader import DEFAULT_OPTIONS, FLASH, OPTIONS, PAGE, PAGES, RAM
-from tape import EMPTY, LONG, MASS, OUT, RIGHT, SHORT, UNPROTECT, card, erase_page, set_pointer
+    plan, point, put, put_by_number, put_pages, request, send, spelled, stretch, tool_blocks, tool_job, upload)
+from loader import DEFAULT_OPTIONS, FLASH, OPTIONS, PAGE, PAGES, RAM, TRANSFER_SIZE
+from tape import DNLOAD, EMPTY, LONG, MASS, OUT, RIGHT, SHORT, UNPROTECT, card, erase_page, set_pointer
 from walks import Dice
 
 SMALL = Image(6, 17, 0x5A)
@@ -34,7 +34,8 @@ def only(*pages):
 def bench_cases(s):
     s.add([])
     s.add(plan(Image(1, 1, 0x5A)), Image(1, 1, 0x5A))
-    s.add(do(0, MASS) + put(512, *[Ramp(512, 512, 7, 3)]) + go(), TWO_PAGES)
+    image = Image(2560, 7, 3)
+    s.add(erase(0, 1, 2) + put(0, image.part(0, 2048)) + do(3, image.part(2048, 2560)) + go(), image)  # at 0x08000800
     for at in (0x3800, 0x3802):
         s.add(do(0, MASS) + put(at, Ramp(2048, at, 5, 9)) + go(), WHOLE)
     for length in (1, 2):
@@ -192,7 +193,7 @@ def blank_only(s):
 
 def mass_erases(s):
     for image in (SMALL, TWO_PAGES, Image(16383, 3, 3), WHOLE):
-        writes = [event for page in range(image.pages()) for event in put(page * PAGE, *page_of(image, page))]
+        writes = put_pages(image)
         for options_bytes in (DEFAULT_OPTIONS, only(*range(image.pages())), only(0), only(0, 1), only(0, 1, 9),
                               only(*range(15)), card(0), card(protection=1)):
             s.add(do(0, MASS) + writes + go(), image, options_bytes)
@@ -206,47 +207,98 @@ def mass_erases(s):
 
 
 def block_orders(s):
+    """Blocks of any size in any order, each by its pointer or by its number."""
     dice = Dice(31)
     for turn in range(90):
         image = Image(dice.pick((7, 300, 1024, 1025, 2048, 3000, 4100)), dice.pick((1, 3, 7, 255)), dice.roll(256))
         blocks = shuffled(dice, blocks_of(dice, image))
         events = erase(*shuffled(dice, list(range(image.pages()))))
         for start, end in blocks:
-            events += put(start, image.part(start, end), *([b"\xFF"] if end - start == 1 else []))
+            events += dice.pick((put, put_by_number))(start, *stretch(image, start, end - start))
         s.add(events + go(), image, dice.pick((DEFAULT_OPTIONS, card(0x00FF), card(0xFFF7))))
 
 
 def block_numbers(s):
-    """Blocks of one size by their numbers, in both orders, from a pointer that is not always the first address."""
-    for size in (2, 16, 500, 512, 1000, 1024, 2048):
-        image = Image(4 * size, 3, 11)
-        for first, order in ((0, (2, 3, 4, 5)), (0, (5, 4, 3, 2)), (size, (2, 3, 4)), (0, (4, 2, 5, 3))):
-            events = erase(*range(image.pages()))
-            if first:
-                events += put(0, image.part(0, first))
-            events += point(FLASH.first + first)
-            for number in order:
-                at = first + (number - 2) * size
-                events += do(number, image.part(at, at + size))
-            s.add(events + go(), image)
+    """Blocks by their numbers, from several pointers and in several orders; the last one is full or short."""
+    for last in (2, 512, 2047, 2048):
+        for first in (0, 2, 1024, 2048):
+            image = Image(first + 2 * TRANSFER_SIZE + last, 3, 11)
+            front = erase(*range(image.pages())) + (put(0, image.part(0, first)) if first else [])
+            blocks = [(number, stretch(image, first + (number - 2) * TRANSFER_SIZE, TRANSFER_SIZE))
+                      for number in (2, 3, 4)]
+            for order in ((0, 1, 2), (2, 1, 0), (1, 2, 0)):
+                events = front + point(FLASH.first + first) + send(blocks[k] for k in order)
+                s.add(events + go(), image)
             s.add(events + leave(), image)
-        short = Image(3 * size + size // 2 + 1, 3, 11)  # the last block is shorter, and its number says another place
-        events = erase(*range(short.pages())) + point()
-        for number in (2, 3, 4, 5):
-            at = (number - 2) * size
-            events += do(number, short.part(at, min(at + size, short.length)))
-        s.add(events + go(), short)
+
+
+def small_blocks(s):
+    """Numbers that count blocks of a smaller size: these lie 2,048 apart all the same, with gaps between them."""
+    for size in (2, 16, 500, 512, 1000, 1024, 2047):
+        image = Image(4 * size, 3, 11)
+        sent = point() + send((2 + k, stretch(image, k * size, size)) for k in range(4)) + leave()
+        s.add(erase(*range(image.pages())) + sent, image)
+        s.add(do(0, MASS) + sent, image)
+        s.add(do(0, MASS) + sent, image, only(*range(image.pages())))
+
+
+def tool_jobs(s):
+    """Jobs as a standard DFU tool makes them: blocks by their numbers, the last one short, and read back."""
+    for length in (1, 2, 2047, 2048, 2049, 2050, 4096, 4097, 5000, 16383, 16384):
+        image = Image(length, 7, length % 251)
+        pages, blocks = image.pages(), tool_blocks(image)
+        for options_bytes in (DEFAULT_OPTIONS, card(0xFFFF - 2 ** (pages - 1)), card(0xFFFE), card(0x7FFF),
+                              card(protection=0x00)):
+            s.add(tool_job(pages, blocks), image, options_bytes)
+        s.add(do(0, MASS) + tool_job(0, blocks), image)
+        *front, (number, data) = blocks  # a lone last byte, with no erased one beside it, is too short a block
+        s.add(tool_job(pages, front + [(number, data[:1])]), image)
+
+
+def wrong_blocks(blocks):
+    """The last block lost, doubled, by another number, of other bytes, too long; all blocks by the next number."""
+    *front, (number, data) = blocks
+    yield front
+    yield blocks + blocks[-1:]
+    for other in (number - 1, number + 1, 10):
+        yield front + [(other, data)]
+    yield front + [(number, [data[0]._replace(seed=data[0].seed ^ 1)])]
+    yield front + [(number, [*data, b"\xFF\x00"])]
+    yield [(number + 1, data) for number, data in blocks]
+
+
+def wrong_tool_jobs(s):
+    """The same with something amiss: a block, an erase, a read, the way out, the length in the last block's line."""
+    for image in (Image(2050, 7, 3), Image(5000, 7, 3), WHOLE):
+        pages, blocks = image.pages(), tool_blocks(image)
+        for wrong in wrong_blocks(blocks):
+            s.add(tool_job(pages, wrong), image)
+        job, (number, data) = tool_job(pages, blocks), blocks[-1]
+        s.add(tool_job(pages - 1, blocks), image)
+        s.add(erase(15) + job, image)
+        for more in (9, 10):
+            s.add(job[:-3] + [upload(more, 904)] + job[-3:], image)
+        for out in ([], point(RAM.first) + leave(), options(card(0x7FFF)) + leave()):
+            s.add(job[:-2] + out, image)
+        full = request(OUT, DNLOAD, number, length=TRANSFER_SIZE, data=data)
+        s.add([full if event == dnload(number, *data) else event for event in job], image)
+
+
+def damaged_tool_jobs(s):
+    image = Image(2050, 7, 3)
+    for events in damaged(tool_job(image.pages(), tool_blocks(image)), ()):
+        s.add(events, image)
 
 
 def crossings(s):
     """Blocks of 2,048 over pages of which some are locked, or not erased."""
-    for at in (0, 512, 1022, 1024, 2046):
+    for at in (0, 512, 1022, 1024, 2046, 2560):
         image = Image(at + 2048, 7, 13)
-        front = put(0, image.part(0, at)) if 2 <= at <= 2048 else []
+        front = point() + send(tool_blocks(Image(at, 7, 13)))
         for mask in (0xFFFF, 0xFFFE, 0xFFFD, 0xFFFB, 0xFFF7, 0xFFF0):
             for missing in (None, 1, 2):
                 pages = [page for page in range(image.pages()) if page != missing]
-                s.add(erase(*pages) + front + put(at, image.part(at, at + 2048)) + go(), image, card(mask))
+                s.add(erase(*pages) + front + put_by_number(at, image.part(at, at + 2048)) + go(), image, card(mask))
 
 
 def overlaps(s):
@@ -279,10 +331,11 @@ def reaches(s):
                     reads_it = [ABORTED, upload(2, length), ABORTED]
                     way = reads_it if (length + by) % 2 else do(2, Ramp(length, 0, 0, 255)) + [ATTACH]
                     s.add(point(first + by) + way + plan(SMALL), SMALL, only(0))
-    for pointer, number, length in vectors.spans():
-        if number != 2:
-            s.add(point(pointer) + [ABORTED, upload(number, length), ABORTED] + plan(SMALL), SMALL)
-            s.add(point(pointer) + do(number, Ramp(length, 0, 0, 255)) + plan(SMALL), SMALL, only(0))
+    numbered = [span for span in vectors.spans() if span[1] != 2]
+    for turn, (pointer, number, length) in enumerate(numbered):
+        reads_it = turn // 3 % 2  # in threes, as the spans themselves come in twos, fours and fives
+        way = [ABORTED, upload(number, length), ABORTED] if reads_it else do(number, Ramp(length, 0, 0, 255))
+        s.add(point(pointer) + way + erase(0) + go(), Image(1, 0, 255), only(0))
 
 
 def addresses(s):
@@ -303,8 +356,8 @@ def addresses(s):
 
 BACKS = (
     [upload(0, 4)], [upload(0, 1)], [upload(0, 2048)], [upload(1, 4), ABORTED], [upload(2, 2), ABORTED],
-    [upload(2, 1), ABORTED], [upload(2, 2048), upload(3, 2048), ABORTED], [upload(9, 2048), ABORTED],
-    [upload(10, 2048), ABORTED], [upload(2, 16)], [upload(2, 16), upload(0, 4)], [upload(2, 0)], [upload(2, 2049)],
+    [upload(2, 1), ABORTED], [upload(2, 2048), upload(3, 904), ABORTED], [upload(3, 2048), upload(9, 2048), ABORTED],
+    [upload(10, 2), ABORTED], [upload(2, 16)], [upload(2, 16), upload(0, 4)], [upload(2, 0)], [upload(2, 2049)],
     [upload(2, 16), STATUS, ABORTED], [upload(2, 16), STATE, ABORTED, STATE])
 
 
@@ -325,11 +378,16 @@ def reads(s):
 
 
 def ram_writes(s):
-    for at, length in ((0, 2), (0, 1), (0, 2048), (1, 2048), (2046, 2), (2047, 2), (2047, 1), (100, 600)):
-        for number in (2, 3):
-            for options_bytes in (DEFAULT_OPTIONS, card(0), card(protection=0xEA)):
-                events = point(RAM.first + at) + do(number, Ramp(length, 0, 3, 1)) * 2
-                s.add(events + plan(SMALL), SMALL, options_bytes)
+    """By block 2, and by block 3 of the options, which is RAM; RAM itself has no block 3."""
+    ram, options_first = RAM.first, OPTIONS.first
+    for pointer, number, length in (
+            (ram, 2, 2), (ram, 2, 1), (ram, 2, 2048), (ram + 1, 2, 2048), (ram + 2046, 2, 2), (ram + 2047, 2, 2),
+            (ram + 2047, 2, 1), (ram + 100, 2, 600), (options_first, 3, 2), (options_first, 3, 1),
+            (options_first, 3, 16), (options_first, 3, 2048), (options_first + 1, 3, 2048),
+            (options_first + 15, 3, 2033), (ram, 3, 2), (ram, 3, 2048)):
+        for options_bytes in (DEFAULT_OPTIONS, card(0), card(protection=0xEA)):
+            events = point(pointer) + do(number, Ramp(length, 0, 3, 1)) * 2
+            s.add(events + plan(SMALL), SMALL, options_bytes)
 
 
 # --- options and protection --------------------------------------------------------------------------------------
@@ -351,6 +409,9 @@ def options_writes(s):
         s.add(load(SMALL) + options(new) + leave(), SMALL)
     for count in (1, 15, 17):
         s.add(point(OPTIONS.first) + do(2, (DEFAULT_OPTIONS * 2)[:count]) + plan(SMALL), SMALL)
+    for number in (3, 4):  # RAM begins a block behind the options, and ends a block later: nothing reboots
+        s.add(point(OPTIONS.first) + do(number, card(0x0000)) + plan(SMALL), SMALL)
+        s.add(load(SMALL) + point(OPTIONS.first) + do(number, card(0x0000)) + go(), SMALL)
     for tail in ([], [STATUS], [STATE], [ABORTED], [ATTACH], [ATTACH, STATUS]):
         s.add(load(SMALL) + options(DEFAULT_OPTIONS)[:-1] + tail + leave(), SMALL)
         s.add(load(SMALL) + options(card(1))[:-1] + tail, SMALL)
@@ -372,8 +433,7 @@ def locked_late(s):
     """Pages locked between their erase and their write: the write is lost, though the page is known to be blank."""
     for image in (SMALL, Image(1025, 5, 5), Image(1024, 0, 255)):
         for mask in (0xFFFE, 0xFFFD, 0x0000):
-            erased = erase(*range(image.pages()))
-            writes = [event for page in range(image.pages()) for event in put(page * PAGE, *page_of(image, page))]
+            erased, writes = erase(*range(image.pages())), put_pages(image)
             s.add(erased + options(card(mask)) + writes + options(DEFAULT_OPTIONS) + leave(), image)
             s.add(erased + options(card(mask)) + writes + go(), image, card(mask))
 
@@ -385,18 +445,9 @@ def freed():
     return do(0, UNPROTECT, polls=1) + [ATTACH]
 
 
-def whole_load(image, size=2048):
-    """Every byte of a blank board, by blocks of one size."""
-    starts = range(0, image.length, size)
-    events = point()
-    for start in starts:
-        end = min(start + size, image.length)
-        whole = end - start == size
-        if whole:
-            events += do(2 + start // size, image.part(start, end))
-        else:
-            events += put(start, image.part(start, end), *([b"\xFF"] if end - start == 1 else []))
-    return events
+def whole_load(image):
+    """Every byte of a blank board, by the numbers of its blocks."""
+    return point() + send(tool_blocks(image))
 
 
 def unprotects(s):
@@ -408,7 +459,7 @@ def unprotects(s):
         s.add(freed() + whole_load(WHOLE) + go(), WHOLE, old)
         s.add(freed() + plan(SMALL), SMALL, old)
         s.add(freed() + plan(WHOLE)[:-4] + options(old) + leave(), WHOLE, old)
-        s.add(freed() + whole_load(WHOLE, 1024) + options(card(0xFFFF, 0x01)) + leave(), WHOLE, old)
+        s.add(freed() + put_pages(WHOLE) + options(card(0xFFFF, 0x01)) + leave(), WHOLE, old)
         s.add(freed() + whole_load(WHOLE) + options(old)[:-1] + leave(), WHOLE, old)
         s.add(freed()[:-1] + whole_load(WHOLE) + options(old) + leave(), WHOLE, old)
         s.add(freed() + options(old) + whole_load(WHOLE) + leave(), WHOLE, old)
@@ -601,6 +652,6 @@ def sizes(s):
 
 
 PARTS = (bench_cases, plans, damaged_plans, changed_plans, wrong_bytes, rests, other_pages, unwritten, blank_only,
-         mass_erases, block_orders, block_numbers, crossings, overlaps, reaches, addresses, reads, ram_writes,
-         options_writes, unlocked, unprotects, damaged_unprotects, modes, dropped, endings, malformed, long_texts,
-         orders, sizes, random_jobs, locked_late)
+         mass_erases, block_orders, block_numbers, small_blocks, tool_jobs, wrong_tool_jobs, damaged_tool_jobs,
+         crossings, overlaps, reaches, addresses, reads, ram_writes, options_writes, unlocked, unprotects,
+         damaged_unprotects, modes, dropped, endings, malformed, long_texts, orders, sizes, random_jobs, locked_late)

@@ -85,6 +85,7 @@ def tally(counts, job, answer, events):
     counts["image length"][job.image.length] += 1
     if isinstance(answer, checker.Refusal):
         counts["refusal"][answer.number] += 1
+        counts["part and verdict"][f"{job.family}: refused {answer.number}"] += 1
         return
     kind = {checker.EVENT: "Event", checker.END: f"End {answer.number}", checker.BYTE: "Flash", checker.PASS: "Pass"}
     counts["verdict"][kind[answer.kind]] += 1
@@ -92,7 +93,8 @@ def tally(counts, job, answer, events):
     locked = "no page locked" if job.card[8:10] == b"\xFF\xFF" else "pages locked"
     counts["card and verdict"][f"{protected}, {locked}: {kind[answer.kind]}"] += 1
     counts["work area and verdict"][f"{job.fill.name}: {kind[answer.kind]}"] += 1
-    counts["part and verdict"][f"{job.family}: {kind[answer.kind]}"] += 1
+    where = f", {place_of(answer.number, job.image)}" if answer.kind == checker.BYTE else ""
+    counts["part and verdict"][f"{job.family}: {kind[answer.kind]}{where}"] += 1
     counts["events in the job, up to"][2 ** (len(events) - 1).bit_length() if events else 0] += 1
     if answer.kind == checker.EVENT:
         counts["event that fails"][failure_words(events, answer.number, job.card)] += 1

@@ -1,9 +1,9 @@
 """Random jobs for the checker: mostly what a careful host would send, with damage here and there."""
 
 from jobs import (
-    ABORTED, ATTACH, CLEAR, STATE, STATUS, Image, Ramp, dnload, do, erase, go, leave, options, point, put, request,
-    upload)
-from loader import FLASH, PAGES, RAM
+    ABORTED, ATTACH, CLEAR, STATE, STATUS, Image, Ramp, dnload, do, erase, go, leave, options, point, put,
+    put_by_number, request, stretch, upload)
+from loader import FLASH, OPTIONS, PAGES, RAM
 from tape import MASS, UNPROTECT, card, erase_page, set_pointer
 from walks import Dice
 
@@ -51,8 +51,9 @@ def pause(dice, board):
         lambda: [ATTACH],
         lambda: [ABORTED, upload(0, 1 + dice.roll(8))],
         lambda: [ABORTED, upload(2, 2 + dice.roll(200)), ABORTED],
-        lambda: [ABORTED, upload(2 + dice.roll(4), 512), STATE, ABORTED],
+        lambda: point() + [ABORTED, upload(2 + dice.roll(8), dice.pick((2, 512, 2047, 2048))), STATE, ABORTED],
         lambda: point(RAM.first) + do(2, Ramp(2 + dice.roll(300), 0, 1, dice.roll(256))),
+        lambda: point(OPTIONS.first) + do(3, Ramp(2 + dice.roll(300), 0, 1, dice.roll(256))),  # it is RAM too
         lambda: point(RAM.first + dice.roll(2000)) + [ABORTED, upload(2, 16), ABORTED],
         lambda: [dnload(0, MASS), ABORTED],
         lambda: [dnload(0), ABORTED],
@@ -67,8 +68,8 @@ def loaded(dice, image, board):
     for page in shuffled(dice, range(image.pages())):
         events += erase(page) + pause(dice, board)
     for start, end in shuffled(dice, blocks_of(dice, image)):
-        tail = [b"\xFF"] if end - start == 1 else []
-        events += put(start, image.part(start, end), *tail) + pause(dice, board)
+        way = dice.pick((put, put_by_number))
+        events += way(start, *stretch(image, start, end - start)) + pause(dice, board)
     return events
 
 

@@ -28,7 +28,7 @@ from collections import namedtuple
 import checker
 import letters
 import loader
-from loader import FLASH, OPTIONS, PAGE
+from loader import FLASH, OPTIONS, PAGE, TRANSFER_SIZE
 from tape import (
     ABORT, CLRSTATUS, CODE_NAMES, DNLOAD, GETSTATE, GETSTATUS, IN, LENGTH_WORDS, OUT, UPLOAD, digest, erase_page,
     little, ramp, set_pointer, sized)
@@ -147,6 +147,11 @@ def put(offset, *data):
     return point(FLASH.first + offset) + do(2, *data)
 
 
+def put_by_number(offset, *data):
+    """The same, with the pointer in the first block of flash: the number says how many blocks behind it."""
+    return point(FLASH.first + offset % TRANSFER_SIZE) + do(2 + offset // TRANSFER_SIZE, *data)
+
+
 def go():
     """Pointer back, and away."""
     return point() + leave()
@@ -161,10 +166,19 @@ def options(data):
     return point(OPTIONS.first) + do(2, data, polls=1) + [ATTACH]
 
 
+def stretch(image, start, size):
+    """The image's bytes from an offset on, `size` at most; a lone last byte gets an erased one beside it."""
+    part = image.part(start, min(start + size, image.length))
+    return (part,) if part.count > 1 else (part, b"\xFF")
+
+
 def page_of(image, page):
-    """The image's bytes in a page; a lone last byte gets an erased one beside it."""
-    start, end = page * PAGE, min((page + 1) * PAGE, image.length)
-    return (image.part(start, end),) if end - start > 1 else (image.part(start, end), b"\xFF")
+    return stretch(image, page * PAGE, PAGE)
+
+
+def put_pages(image):
+    """The image page by page, where every page is blank."""
+    return [event for page in range(image.pages()) for event in put(page * PAGE, *page_of(image, page))]
 
 
 def load(image):
@@ -177,6 +191,28 @@ def load(image):
 
 def plan(image):
     return load(image) + go()
+
+
+# --- a standard DFU tool's way: full blocks and then a short one, by their numbers -------------------------------
+
+
+def tool_blocks(image):
+    """Numbers and data, from block 2 on."""
+    return [(2 + start // TRANSFER_SIZE, stretch(image, start, TRANSFER_SIZE))
+            for start in range(0, image.length, TRANSFER_SIZE)]
+
+
+def send(blocks):
+    return [event for number, data in blocks for event in do(number, *data)]
+
+
+def read_back(blocks):
+    return [ABORTED] + [upload(number, data_size(data)) for number, data in blocks] + [ABORTED]
+
+
+def tool_job(pages, blocks):
+    """The first pages erased, the blocks sent from the first flash address on, read back, and away."""
+    return erase(*range(pages)) + point() + send(blocks) + read_back(blocks) + leave()
 
 
 # --- a job ------------------------------------------------------------------------------------------------------
