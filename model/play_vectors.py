@@ -73,22 +73,23 @@ def sample_job():
     new_options[9] = 0x7F
     return [
         loader.ATTACH, request(IN, 5, length=1), request(IN, 2, 0, 8),
-        *done(pointed(0x41, page(3))), *done(pointed(0x21, page(3))),
+        # from a place in page 2 block 3 is the same place in page 4, however short the blocks are
+        *done(pointed(0x41, page(2))), *done(pointed(0x41, page(4))), *done(pointed(0x21, page(2) + 64)),
         *done(download(2, ramp(64, 1))), *done(download(3, ramp(64, 9))),
-        # over the end of page 3 into page 4, which is not blank
-        *done(pointed(0x21, page(4) - 2)), download(2, ramp(4, 0)), STATUS, CLEAR,
+        # over the end of page 2 into page 3, which is not blank
+        *done(pointed(0x21, page(3) - 2)), download(2, ramp(4, 0)), STATUS, CLEAR,
         # the write-protected page
         *done(pointed(0x41, page(5))), *done(pointed(0x21, page(5))), *done(download(2, ramp(8, 0))),
-        *done(pointed(0x21, page(3))), ABORT, request(IN, 2, 2, 64), request(IN, 2, 3, 64), ABORT,
+        *done(pointed(0x21, page(2) + 64)), ABORT, request(IN, 2, 2, 64), request(IN, 2, 3, 64), ABORT,
         # stalls: DETACH, block 1, no command, a read past flash
         request(OUT, 0), STATUS, CLEAR, download(1, b"\1"), CLEAR, download(0, b"\x33\0"), CLEAR,
         download(0, b"\x21"), CLEAR, request(IN, 2, 0xFFFF, 2048), CLEAR, request(IN, 2, 1, 2), CLEAR,
         # commands that are dropped before they run
         download(0, b"\x41"), ABORT, download(0, b"\x92"), ABORT, pointed(0x33, page(0)), CLEAR,
         pointed(0x41, RAM.first), STATUS, CLEAR,
-        *done(pointed(0x21, RAM.first)), *done(download(3, ramp(16, 3))),
-        *done(pointed(0x41, page(15))), *done(pointed(0x21, OPTIONS.first)), download(2, bytes(new_options)), STATUS,
-        STATUS, loader.ATTACH,
+        # RAM begins 2,048 behind the options' first address: from there it is block 3, and the options are block 2
+        *done(pointed(0x21, OPTIONS.first)), *done(download(3, ramp(16, 3))),
+        *done(pointed(0x41, page(15))), download(2, bytes(new_options)), STATUS, STATUS, loader.ATTACH,
         *done(pointed(0x21, FLASH.first)), download(0, b""), STATUS, STATUS]
 
 
