@@ -191,7 +191,7 @@ fn aim(pointer: u32, pending: Pending) -> usize
         Pending::ErasePage(_) => 0,
         Pending::MassErase => 0,
         Pending::ReadUnprotect => 0,
-        Pending::Write { block, count } => {
+        Pending::Write { block, count: _ } => {
             (access::block_address(block, pointer) % Board::FLASH as u64) as usize
         }
     }
