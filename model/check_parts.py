@@ -372,7 +372,7 @@ def reads(s):
                             (OPTIONS.first, 15), (OPTIONS.first + 1, 15), (FLASH.first + 16382, 2)):
         for options_bytes in (DEFAULT_OPTIONS, card(protection=0xA8)):
             s.add(point(address) + [ABORTED, upload(2, length), ABORTED] + plan(SMALL), SMALL, options_bytes)
-    for address in (FLASH.first + PAGE, RAM.first + 64, OPTIONS.first + 15):  # block 1 is none, though bytes lie there
+    for address in (FLASH.first + TRANSFER_SIZE, FLASH.first + 5000, RAM.first):  # no block 1, though bytes lie there
         for length in (2, 15, 16):
             s.add(point(address) + [ABORTED, upload(1, length), ABORTED] + plan(SMALL), SMALL)
 

@@ -3,7 +3,7 @@
 from jobs import (
     ABORTED, ATTACH, CLEAR, STATE, STATUS, Image, Ramp, dnload, do, erase, go, leave, options, point, put,
     put_by_number, request, stretch, upload)
-from loader import FLASH, OPTIONS, PAGES, RAM
+from loader import FLASH, OPTIONS, PAGES, RAM, TRANSFER_SIZE
 from tape import MASS, UNPROTECT, card, erase_page, set_pointer
 from walks import Dice
 
@@ -23,9 +23,9 @@ def blocks_of(dice, image):
     blocks, start = [], 0
     while start < image.length:
         size = min(dice.pick((2, 3, 64, 255, 512, 1024, 1500, 2048)), image.length - start)
-        size += 1 if image.length - start - size == 1 and size < 2048 else 0
+        size += 1 if image.length - start - size == 1 and size < TRANSFER_SIZE else 0
         if image.length - start > 40 * size:
-            size = min(2048, image.length - start)
+            size = min(TRANSFER_SIZE, image.length - start)
         blocks.append((start, start + size))
         start += size
     return blocks

@@ -382,7 +382,11 @@ def spans_in_ram():
             yield options + by, 3, 2049 - by
     yield from (
         (options, 3, 1), (options, 3, 2), (options, 3, 15), (options, 3, 16), (options + 15, 3, 1),
-        (options + 15, 3, 2), (options, 4, 2), (options, 4, 16), (options + 15, 4, 2048), (options + 8, 2, 8))
+        (options + 15, 3, 2), (options, 4, 16), (options + 15, 4, 2048), (options + 8, 2, 8))
+    for number in range(4, 10):  # what flash has behind them, they have not
+        for length in (2, 2048):
+            yield ram, number, length
+            yield options, number, length
 
 
 def spans_far_off():
@@ -391,7 +395,10 @@ def spans_far_off():
     for bit in (4, 5, 6, 7, 8, 9, 13, 15):
         number = 2 + 2**bit
         yield from ((flash, number, 2048), (ram, number, 2), (options, number, 16), (options, number + 1, 16))
-    yield from ((flash, 65535, 2), (flash + 16383, 65535, 2048), (ram + 2047, 65535, 2048), (options, 65535, 16))
+    for region in REGIONS:
+        for pointer in (region.first, region.first + region.size - 1):
+            yield from ((pointer, 65535, 2), (pointer, 65535, 2048))
+    yield options, 65535, 16
 
 
 def reads(t):
@@ -422,6 +429,12 @@ def lengths(t):
         for length in (0, 1, 2, 3, 4, 5, 15, 16, 17, 1023, 1024, 1025, 2047, 2048, 2049, 65535):
             t.device(UPLOAD_IDLE if length % 2 else IDLE, pointer=FLASH.first)
             t.upload(number, length)
+    for pointer in (FLASH.first + TRANSFER_SIZE, RAM.first):  # block 1 is none, though bytes lie a block before these
+        for length in (2, 16, 2048):
+            t.device(IDLE, pointer=pointer)
+            t.upload(1, length)
+            t.device(IDLE, pointer=pointer)
+            t.dnload(1, length=length)
 
 
 def commands(t):

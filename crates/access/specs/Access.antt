@@ -1,4 +1,4 @@
--- The address of a block, and the first two of the read and write checks. Document 01, "Address" and "Read and write checks". Assumes nothing.
+-- The address of a block, and the first two of the read and write checks. Document 02, CR 3; document 01, "Read and write checks". Assumes nothing.
 use mathlib.Core.Bool.{Bool, cond, _&&_}
 use Prim.Native.Nat.{ℕ, _+_, _-_, _*_}
 use lib.Dec.{eqb, ltb}

@@ -70,7 +70,7 @@ infix 70 _⇒_
 abbrev pub _⇒_ : Deed → Finding → Check
 d ⇒ f = record { deed = d; finding = f }
 
--- a case: a check, or two where it has two halves
+-- a case: a check, or several where it has parts
 abbrev pub Case : Type 0
 Case = List Check
 

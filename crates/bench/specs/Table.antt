@@ -1,4 +1,4 @@
--- The bench cases marked P. Document 01, "Bench cases". Assumes nothing.
+-- The bench cases marked P. Document 01, "Bench cases"; document 02, CR 3. Assumes nothing.
 use mathlib.Core.List.{List, [], _∷_, _++_}
 use Prim.Native.Nat.{ℕ}
 use lib.ListN.{length, replicate}
@@ -57,7 +57,7 @@ stalling m = state (2 ∷ []) 15 Error m
 -- the nine cases, in the document's order
 abbrev pub table : List Case
 table =
-    -- 1, as CR 3 has it: block 3 of 512 bytes lies 2,048 bytes behind the pointer, written and read
+    -- 1, by CR 3: block 3 of 512 bytes lies 2,048 bytes behind the pointer, written and read
     (locate 3 0x08000000 ⇒ address 0x08000800 ∷
     ask (downloading 3 (replicate 512 0x5A) ∷ gettingStatus ∷ []) allErased ⇒ done DownloadBusy (put 0x800 (replicate 512 0x5A) allErased) ∷
     ask (uploading 3 512 ∷ []) (put 0x800 (replicate 512 0x5A) allErased) ⇒ replied (replicate 512 0x5A) UploadIdle (put 0x800 (replicate 512 0x5A) allErased) ∷ []) ∷

@@ -1,26 +1,16 @@
 -- A step from a well-formed state leads to one. Assumes nothing.
 use mathlib.Core.Path.{_≡_, refl}
-use mathlib.Core.Bool.{Bool, true, false, true≢false}
+use mathlib.Core.Bool.{true, true≢false}
 use mathlib.Core.List.{List}
 use Prim.Native.Nat.{ℕ, _≤_}
-use native.Mathlib.Omega.{arith}
-use lib.Dec.{T}
 use lib.ListN.{length, take, drop}
-use borrow.Author.Tests.{le-leb}
 use Rattle.laws.proofs.Split.{by-bool}
-use Rattle.board.specs.declared.Place.{Place}
-use Rattle.board.specs.declared.Place.the-variants.{Flash, Ram, Options, Outside}
-use Rattle.board.specs.Layout.{flashBytes}
 use Rattle.protection.specs.Protection.{readProtected, wordOf}
-use Rattle.board.specs.Span.{spans, placeOf}
 use Rattle.request.specs.Setup.{setupOf}
-use Rattle.mode.specs.declared.Mode.the-variants.{UploadIdle, Error}
-use Rattle.device.specs.declared.Pending.{Pending}
-use Rattle.device.specs.declared.Pending.the-variants.{Nothing, SetPointer, ErasePage, MassErase, ReadUnprotect, Write}
+use Rattle.mode.specs.declared.Mode.the-variants.{UploadIdle}
 use Rattle.device.specs.declared.Device.{Device}
 use Rattle.mode.specs.Wire.{isMode}
-use Rattle.device.specs.State.{started}
-use Rattle.states.specs.WellFormed.{inRegion, statusFits}
+use Rattle.states.specs.WellFormed.{inRegion}
 use Rattle.states.proofs.Form.{Form, Sane, Calm, started-form, stalled-form, entered-form, after-status-form}
 use Rattle.decision.specs.declared.Decision.{Decision}
 use Rattle.decision.specs.declared.Decision.the-variants as decided
@@ -34,7 +24,7 @@ use Rattle.action.specs.declared.Action.the-variants.{Rest, Fail, Point, Erase,
 use Rattle.access.specs.Access.{blockAccess}
 use Rattle.action.proofs.Denials.{Refusing, block-refusing}
 use Rattle.action.proofs.Proper.{Proper, action-proper, went-well}
-use Rattle.action.specs.Action.{pointOf, eraseAt, storeAt, actionIn, actionOf, movedOf, ranOf}
+use Rattle.action.specs.Action.{actionIn, actionOf, ranOf}
 use Rattle.flash.specs.Flash.{blank}
 use Rattle.loader.specs.declared.Event.{Event}
 use Rattle.loader.specs.declared.Event.the-variants as event

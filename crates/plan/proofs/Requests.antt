@@ -30,7 +30,7 @@ use Rattle.decision.specs.Decide.{commandedOf, downloadOf, decideOf}
 use Rattle.action.specs.declared.Action.{Action}
 use Rattle.action.specs.declared.Action.the-variants.{Point, Erase, StoreFlash}
 use Rattle.access.specs.Access.{accessOf}
-use Rattle.access.proofs.Address.{second-access-at-pointer}
+use Rattle.access.proofs.Theorems.{second-access-at-pointer}
 use Rattle.action.specs.Action.{actionIn, actionOf, movedOf, rebootsOf}
 use Rattle.flash.specs.Flash.{stored}
 use Rattle.line.specs.Event.{Event}

@@ -10,7 +10,7 @@ use vectors::ramp;
 
 const MEMORY: u16 = 18448;
 
-// The same as a number of bytes to paint, with its flash and the option bytes at its end; the block or reply buffer with
+// The same as a number of bytes to paint, with its flash and the option bytes at its end; a block or reply buffer with
 // the byte that is too much.
 const ALL: usize = 18448;
 

@@ -1,4 +1,4 @@
--- Which request a setup asks for. Document 01, "Events", the table of requests, without its last column. Assumes nothing.
+-- Which request a setup asks for. Document 01, "Events", the table of requests, without its last column; document 02, CR 3. Assumes nothing.
 use mathlib.Core.Bool.{Bool, cond, _&&_, true, false}
 use Prim.Native.Nat.{ℕ}
 use lib.Dec.{eqb, leb}
