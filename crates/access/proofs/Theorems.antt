@@ -11,7 +11,7 @@ use Rattle.access.proofs.Address.{address-at-pointer}
 pub second-block-at-pointer : (transfer pointer : ℕ) → blockAddress transfer 2 pointer ≡ pointer
 second-block-at-pointer transfer pointer = address-at-pointer transfer 2 pointer (omega arith)
 
--- so a plan, which knows no other block, asks for the same under each
+-- so what block number 2 may be used for, and a plan writes no other, has no transfer size in it
 pub second-access-at-pointer : (n : ℕ) (protected : Bool) (count pointer : ℕ) → blockAccess n protected 2 count pointer ≡ accessOf n protected pointer count
 unfolding blockAccess
 second-access-at-pointer n protected count pointer = ap (λ (address : ℕ). accessOf n protected address count) (second-block-at-pointer _ pointer)
