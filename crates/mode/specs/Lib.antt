@@ -1,3 +1,2 @@
 pub mod Wire
 pub mod Table
-pub mod Columns
