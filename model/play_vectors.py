@@ -174,4 +174,5 @@ def main(words):
     (crate / "stdout").write_text(text)
 
 
-main(sys.argv[1:])
+if __name__ == "__main__":
+    main(sys.argv[1:])

@@ -1,4 +1,4 @@
--- What an arm of a match on the mode knows: the mode's place among the variants is one of some. Assumes nothing.
+-- An arm of a match on the mode knows that the mode's place is one of some: what it may answer. Assumes nothing.
 use mathlib.Core.Path.{_≡_, refl, ap, sym, _∙_}
 use mathlib.Core.Bool.{Bool, true, false, cond}
 use mathlib.Core.List.{List, [], _∷_}
@@ -16,6 +16,7 @@ use Rattle.mode.specs.declared.Mode.the-variants.{Idle, DownloadSync, Do
 use Rattle.mode.specs.Table.{allowedOf}
 use Rattle.mode.proofs.Mode.{the-type}
 
+-- the mode's place among the variants
 abbrev pub place : Mode → ℕ
 place mode = tagOf the-type mode
 
@@ -50,19 +51,20 @@ module _ (request : Request) (answer : Bool) where
   among [] = []
   among (m ∷ ms) = cond (agree answer (allowedOf request m)) (place m ∷ among ms) (among ms)
 
+  -- the same, of all modes: what an arm with this answer may know
   abbrev pub places : List ℕ
   places = among modes
 
-  so-among : (mode : Mode) (ms : List Mode) → OneOf (among ms) (place mode) → answer ≡ allowedOf request mode
-  so-among mode [] o = absurd o
-  so-among mode (m ∷ ms) o =
+  among-answer : (mode : Mode) (ms : List Mode) → OneOf (among ms) (place mode) → answer ≡ allowedOf request mode
+  among-answer mode [] o = absurd o
+  among-answer mode (m ∷ ms) o =
       ⊎-elim
       (λ h.
       let t : T (agree answer (allowedOf request m)) = rw (h .0) tt in
       agree-eq answer (allowedOf request m) t ∙ ap (allowedOf request) (one-mode-a-place m mode (h .1)))
-      (so-among mode ms)
+      (among-answer mode ms)
       (first-or-later (agree answer (allowedOf request m)) (place m) (among ms) (place mode) o)
 
-  -- `asked` is what the code has of the request, and r what a match told of it
-  pub answered-so : (asked : Request) (mode : Mode) → asked ≡ request → OneOf places (place mode) → answer ≡ allowedOf asked mode
-  answered-so asked mode e o = so-among mode modes o ∙ ap (λ (r : Request). allowedOf r mode) (sym e)
+  -- `asked` is the request as the code has it, and `request` what its arm told of it
+  pub places-answer : (asked : Request) (mode : Mode) → asked ≡ request → OneOf places (place mode) → answer ≡ allowedOf asked mode
+  places-answer asked mode e o = among-answer mode modes o ∙ ap (λ (r : Request). allowedOf r mode) (sym e)

@@ -1,4 +1,4 @@
-// The device's modes, and the table of the requests that each takes.
+// The device's modes, and which requests each takes.
 ghost use mathlib.Core.Path.{_≡_};
 ghost use Rattle.mode.specs.Wire.{wireOf};
 ghost use Rattle.mode.specs.Table.{allowedOf};
@@ -35,7 +35,8 @@ impl Mode {
     }
 }
 
-// Is the request taken in this mode? Each arm names the modes that take its request; all else is not taken.
+// Is the request taken in this mode? The requests in document 01's order, each by the modes that take it or, where the
+// paper says "all", by those that do not. docs/REQUESTS.md has the answers as a table, printed by `request_table`.
 pub fn allowed(request: Request, mode: Mode) -> bool
     ensures { λ r. ⌜ r ≡ allowedOf request mode ⌝ }
 {
