@@ -39,10 +39,10 @@ one-mode-a-place : (m mode : Mode) → place mode ≡ place m → m ≡ mode
 one-mode-a-place m mode e = sym (at-its-place m) ∙ ap (λ (k : ℕ). getD modes k Idle) (sym e) ∙ at-its-place mode
 
 -- a number among some, of which the first is there where b says so
-first-or-later : (b : Bool) (k : ℕ) (ks : List ℕ) (x : ℕ) → OneOf (cond b (k ∷ ks) ks) x → ((b ≡ true) × (x ≡ k)) ⊎ OneOf ks x
+first-or-later : (b : Bool) (k : ℕ) (ks : List ℕ) (x : ℕ) → OneOf (cond b (k ∷ ks) ks) x → (T b × (x ≡ k)) ⊎ OneOf ks x
 first-or-later false k ks x o = inr o
-first-or-later true k [] x e = inl (refl, e)
-first-or-later true k (l ∷ ks) x (inl e) = inl (refl, e)
+first-or-later true k [] x e = inl (tt, e)
+first-or-later true k (l ∷ ks) x (inl e) = inl (tt, e)
 first-or-later true k (l ∷ ks) x (inr o) = inr o
 
 module _ (request : Request) (answer : Bool) where
@@ -51,7 +51,7 @@ module _ (request : Request) (answer : Bool) where
   among [] = []
   among (m ∷ ms) = cond (agree answer (allowedOf request m)) (place m ∷ among ms) (among ms)
 
-  -- the same, of all modes: what an arm with this answer may know
+  -- the same, of all modes, in the enum's order: an arm with this answer has to name these, in this order
   abbrev pub places : List ℕ
   places = among modes
 
@@ -59,9 +59,7 @@ module _ (request : Request) (answer : Bool) where
   among-answer mode [] o = absurd o
   among-answer mode (m ∷ ms) o =
       ⊎-elim
-      (λ h.
-      let t : T (agree answer (allowedOf request m)) = rw (h .0) tt in
-      agree-eq answer (allowedOf request m) t ∙ ap (allowedOf request) (one-mode-a-place m mode (h .1)))
+      (λ h. agree-eq answer (allowedOf request m) (h .0) ∙ ap (allowedOf request) (one-mode-a-place m mode (h .1)))
       (among-answer mode ms)
       (first-or-later (agree answer (allowedOf request m)) (place m) (among ms) (place mode) o)
 
