@@ -17,7 +17,7 @@ use Rattle.mode.specs.Table.{allowedOf}
 use Rattle.mode.proofs.Mode.{the-type}
 
 -- the mode's place among the variants
-abbrev pub place : Mode → ℕ
+abbrev place : Mode → ℕ
 place mode = tagOf the-type mode
 
 -- the modes, each at its place
@@ -52,7 +52,7 @@ module _ (request : Request) (answer : Bool) where
   among (m ∷ ms) = cond (agree answer (allowedOf request m)) (place m ∷ among ms) (among ms)
 
   -- the same, of all modes, in the enum's order: an arm with this answer has to name these, in this order
-  abbrev pub places : List ℕ
+  abbrev places : List ℕ
   places = among modes
 
   among-answer : (mode : Mode) (ms : List Mode) → OneOf (among ms) (place mode) → answer ≡ allowedOf request mode
