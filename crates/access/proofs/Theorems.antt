@@ -6,15 +6,16 @@ use native.Mathlib.Omega.{arith}
 use native.Mathlib.Nat.{suc-mul}
 use Rattle.access.specs.Access.{blockAddress, accessOf, blockAccess}
 use Rattle.access.proofs.Address.{address-at-pointer}
+use Rattle.board.specs.declared.Board.{Board}
 
 -- block number 2 is the pointer itself under any transfer size
 pub second-block-at-pointer : (transfer pointer : ℕ) → blockAddress transfer 2 pointer ≡ pointer
 second-block-at-pointer transfer pointer = address-at-pointer transfer 2 pointer (omega arith)
 
 -- so what block number 2 may be used for, and a plan writes no other, has no transfer size in it
-pub second-access-at-pointer : (n : ℕ) (protected : Bool) (count pointer : ℕ) → blockAccess n protected 2 count pointer ≡ accessOf n protected pointer count
+pub second-access-at-pointer : (board : Board) (protected : Bool) (count pointer : ℕ) → blockAccess board protected 2 count pointer ≡ accessOf board protected pointer count
 unfolding blockAccess
-second-access-at-pointer n protected count pointer = ap (λ (address : ℕ). accessOf n protected address count) (second-block-at-pointer _ pointer)
+second-access-at-pointer board protected count pointer = ap (λ (address : ℕ). accessOf board protected address count) (second-block-at-pointer _ pointer)
 
 -- a block begins where a full one with the number before it ends
 pub block-follows-block : (transfer block pointer : ℕ) → 2 ≤ block → blockAddress transfer (suc block) pointer ≡ blockAddress transfer block pointer + transfer

@@ -30,7 +30,7 @@ pub fn block_address(block: u16, pointer: u32) -> u64
 
 // The checks that a read and a write share, in their order.
 fn examine(board: Board, protected: bool, address: u64, count: u16) -> Access
-    ensures { λ r. ⌜ r ≡ accessOf (board .pages) protected address count ⌝ }
+    ensures { λ r. ⌜ r ≡ accessOf board protected address count ⌝ }
 {
     if protected {
         return Access::Denied(Device::VENDOR);
@@ -46,7 +46,7 @@ fn examine(board: Board, protected: bool, address: u64, count: u16) -> Access
 
 // What the block with this number and length may be used for: one rule for reads and writes.
 pub fn examine_block(board: Board, protected: bool, block: u16, count: u16, pointer: u32) -> Access
-    ensures { λ r. ⌜ r ≡ blockAccess (board .pages) protected block count pointer ⌝ }
+    ensures { λ r. ⌜ r ≡ blockAccess board protected block count pointer ⌝ }
 {
     examine(board, protected, block_address(block, pointer), count)
 }
@@ -63,7 +63,7 @@ fn at_least_two(count: u16, access: Access) -> Access
 
 // Options are used all at once.
 fn all_options(board: Board, at: usize, count: u16) -> Access
-    ensures { λ r. ⌜ r ≡ optionsAt (board .pages) at count ⌝ }
+    ensures { λ r. ⌜ r ≡ optionsAt board at count ⌝ }
 {
     if at != board.options_from() {
         return Access::Denied(Device::TARGET);

@@ -7,19 +7,20 @@ use Rattle.refusal.specs.declared.Refusal.{Refusal}
 use Rattle.refusal.specs.declared.Refusal.the-variants.{Image, Card}
 use Rattle.refusal.specs.declared.Admission.{Admission}
 use Rattle.refusal.specs.Order.{firstOf}
+use Rattle.board.specs.declared.Board.{Board}
 use Rattle.board.specs.Layout.{flashBytes, optionBytes}
 
 -- row 7, for the length of an image
-abbrev pub unfit : ℕ → ℕ → Bool
-unfit n image = eqb image 0 || ltb (flashBytes n) image
+abbrev pub unfit : Board → ℕ → Bool
+unfit board image = eqb image 0 || ltb (flashBytes board) image
 
 -- rows 7 and 8, for the lengths of image and card
-abbrev pub supplyRefusals : ℕ → ℕ → ℕ → List (Refusal × Bool)
-supplyRefusals n image card =
-    (Image, unfit n image)
+abbrev pub supplyRefusals : Board → ℕ → ℕ → List (Refusal × Bool)
+supplyRefusals board image card =
+    (Image, unfit board image)
     ∷ (Card, not (eqb card optionBytes))
     ∷ []
 
 -- the first of them
-unfoldable pub supplied : ℕ → ℕ → ℕ → Admission
-supplied n image card = firstOf (supplyRefusals n image card)
+unfoldable pub supplied : Board → ℕ → ℕ → Admission
+supplied board image card = firstOf (supplyRefusals board image card)

@@ -1,7 +1,6 @@
 -- The device that a decision carries is well formed, and memory is read in a calm mode only. Assumes nothing.
 use mathlib.Core.Path.{refl}
 use mathlib.Core.Bool.{true}
-use Prim.Native.Nat.{ℕ}
 use lib.Dec.{T}
 use Rattle.request.specs.declared.Setup.{Setup}
 use Rattle.mode.specs.declared.Mode.the-variants.{Idle, ManifestSync}
@@ -14,32 +13,33 @@ use Rattle.decision.specs.declared.Decision.{Decision}
 use Rattle.decision.specs.declared.Decision.the-variants.{Silent, Stall, Accept, Take, Commands, Read, State, Status}
 use Rattle.decision.specs.Decide.{decideOf}
 use Rattle.decision.proofs.Cases.{decide-case}
+use Rattle.board.specs.declared.Board.{Board}
 
-abbrev pub Formed : ℕ → Device → Decision → Type 0
-Formed n d Silent = T true
-Formed n d (Stall next) = Form n next
-Formed n d (Accept next) = Form n next
-Formed n d (Take next) = Form n next
-Formed n d (Commands next count) = Form n next
-Formed n d Read = Calm (d .mode)
-Formed n d State = T true
-Formed n d Status = T true
+abbrev pub Formed : Board → Device → Decision → Type 0
+Formed board d Silent = T true
+Formed board d (Stall next) = Form board next
+Formed board d (Accept next) = Form board next
+Formed board d (Take next) = Form board next
+Formed board d (Commands next count) = Form board next
+Formed board d Read = Calm (d .mode)
+Formed board d State = T true
+Formed board d Status = T true
 
-pub decide-formed : (n : ℕ) (d : Device) → Form n d → (s : Setup) (k : Command) → Formed n d (decideOf d s k)
-decide-formed n d f s k =
-    decide-case (Formed n d) d s k
+pub decide-formed : (board : Board) (d : Device) → Form board d → (s : Setup) (k : Command) → Formed board d (decideOf d s k)
+decide-formed board d f s k =
+    decide-case (Formed board d) d s k
     (record {
       silent = tt;
-      refused = stalled-form n d f errSTALLEDPKT refl;
-      leaves = λ t. entered-form n d f ManifestSync (download-calm (d .mode) (t .allowed)) (record { sync = refl; error = refl });
-      points = λ t address. waiting-form n d f (SetPointer address) (download-calm (d .mode) (t .allowed)) refl;
-      erases = λ t address. waiting-form n d f (ErasePage address) (download-calm (d .mode) (t .allowed)) refl;
-      erases-all = λ t. waiting-form n d f MassErase (download-calm (d .mode) (t .allowed)) refl;
-      unprotects = λ t. waiting-form n d f ReadUnprotect (download-calm (d .mode) (t .allowed)) refl;
-      takes = λ t w. waiting-form n d f (Write (s .value) (s .length)) (download-calm (d .mode) (t .allowed)) w;
-      lists = λ t count h. entered-form n d f Idle (upload-calm (d .mode) (t .allowed)) (record { sync = refl; error = refl });
+      refused = stalled-form board d f errSTALLEDPKT refl;
+      leaves = λ t. entered-form board d f ManifestSync (download-calm (d .mode) (t .allowed)) (record { sync = refl; error = refl });
+      points = λ t address. waiting-form board d f (SetPointer address) (download-calm (d .mode) (t .allowed)) refl;
+      erases = λ t address. waiting-form board d f (ErasePage address) (download-calm (d .mode) (t .allowed)) refl;
+      erases-all = λ t. waiting-form board d f MassErase (download-calm (d .mode) (t .allowed)) refl;
+      unprotects = λ t. waiting-form board d f ReadUnprotect (download-calm (d .mode) (t .allowed)) refl;
+      takes = λ t w. waiting-form board d f (Write (s .value) (s .length)) (download-calm (d .mode) (t .allowed)) w;
+      lists = λ t count h. entered-form board d f Idle (upload-calm (d .mode) (t .allowed)) (record { sync = refl; error = refl });
       reads = λ t. upload-calm (d .mode) (t .allowed);
-      clears = idled-form n d f;
+      clears = idled-form board d f;
       state = λ t. tt;
       status = λ t. tt;
     })

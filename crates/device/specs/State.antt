@@ -2,6 +2,7 @@
 use mathlib.Core.Bool.{cond, false}
 use Prim.Native.Nat.{ℕ}
 use lib.Dec.{eqb}
+use Rattle.board.specs.declared.Board.{Board}
 use Rattle.board.specs.Layout.{flashFirst}
 use Rattle.mode.specs.declared.Mode.{Mode}
 use Rattle.mode.specs.declared.Mode.the-variants.{Idle, DownloadBusy, DownloadIdle, Error, Left, Rebooting}
@@ -11,9 +12,9 @@ use Rattle.device.specs.declared.Ran.{Ran}
 use Rattle.device.specs.declared.Report.{Report}
 use Rattle.mode.specs.Wire.{wireOf, isMode, manifestWire}
 
--- "Attach, in any mode, gives mode 2, status 0, pointer 0x08000000, nothing pending"
-abbrev pub started : Device
-started = record { mode = Idle; status = 0; pointer = flashFirst; pending = Nothing }
+-- "Attach, in any mode, gives mode 2, status 0, pointer 0x08000000, nothing pending": the first flash address of the board
+abbrev pub started : Board → Device
+started board = record { mode = Idle; status = 0; pointer = flashFirst board; pending = Nothing }
 
 -- "CLRSTATUS and ABORT give mode 2, status 0, nothing pending .. Neither moves the pointer"
 abbrev pub idled : Device → Device

@@ -45,18 +45,22 @@ impl Device {
     pub const STALLED: u8 = 15;
 
     // A device that was just plugged in.
-    pub const START: Device = Device {
-        mode: Mode::Idle,
-        status: 0,
-        pointer: Board::FLASH,
-        pending: Pending::Nothing,
-    };
+    pub fn start(board: Board) -> Device
+        ensures { λ r. ⌜ r ≡ started board ⌝ }
+    {
+        Device {
+            mode: Mode::Idle,
+            status: 0,
+            pointer: board.flash_first(),
+            pending: Pending::Nothing,
+        }
+    }
 
     // An Attach, whatever the device was before.
-    pub fn attach(self) -> Device
-        ensures { λ r. ⌜ r ≡ started ⌝ }
+    pub fn attach(self, board: Board) -> Device
+        ensures { λ r. ⌜ r ≡ started board ⌝ }
     {
-        Device::START
+        Device::start(board)
     }
 
     // Back to idle, with the pointer kept: ABORT, and CLRSTATUS too.

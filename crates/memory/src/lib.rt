@@ -1,29 +1,51 @@
 // What a read unprotect does to a memory buffer.
 ghost use mathlib.Core.Path.{_≡_};
-ghost use Prim.Native.Nat.{_≤_};
+ghost use Prim.Native.Nat.{_+_, _≤_, _<_};
 ghost use lib.ListN.{length};
+ghost use Rattle.laws.specs.Bytes.{filled};
 ghost use Rattle.board.specs.Layout.{memoryBytes};
-ghost use Rattle.memory.specs.Whole.{unprotected, ramCleared};
+ghost use Rattle.board.specs.Memory.{ramParts, partFrom, partBytes, ramCleared, flashErased, unprotected};
+ghost use Rattle.board.specs.Sound.{Sound};
 use board::Board;
 
-// The RAM becomes zero. It begins where flash ends.
-pub fn clear_ram(board: Board, memory: &mut [u8])
-    requires { ⌜ memoryBytes (board .pages) ≤ length (now memory) ⌝ }
-    ensures { λ _. ⌜ now (memory .exit) ≡ ramCleared (board .pages) (now (memory .entry)) ⌝ }
+// A part of the RAM becomes zero.
+fn clear_part(board: Board, memory: &mut [u8], part: usize)
+    requires { ⌜ partFrom board part + partBytes board part ≤ length (now memory) ⌝ }
+    ensures { λ _. ⌜ now (memory .exit) ≡ filled (partFrom board part) (partBytes board part) 0 (now (memory .entry)) ⌝ }
 {
-    let from = board.flash_bytes();
-    buffer::fill(memory, from, from + Board::RAM_BYTES, 0);
+    let from = board.part_from(part);
+    buffer::fill(memory, from, from + board.part_bytes(part), 0);
 }
 
-// All flash erased, write-protected or not, RAM zero, and the default options.
-pub fn unprotect(board: Board, memory: &mut [u8])
-    requires { ⌜ length (now memory) ≡ memoryBytes (board .pages) ⌝ }
-    ensures { λ _. ⌜ now (memory .exit) ≡ unprotected (board .pages) ⌝ }
+// The RAM becomes zero, part by part.
+pub fn clear_ram(board: Board, memory: &mut [u8])
+    requires { ⌜ Sound board × (length (now memory) ≡ memoryBytes board) ⌝ }
+    ensures { λ _. ⌜ now (memory .exit) ≡ ramCleared board (now (memory .entry)) ⌝ }
 {
-    let ram = board.flash_bytes();
-    let options = board.options_from();
+    let parts = board.ram_parts();
+    let mut part = 0;
+    while part < parts {
+        clear_part(board, memory, part);
+        part += 1;
+    }
+}
+
+// All flash erased, write-protected or not.
+fn erase_flash(board: Board, memory: &mut [u8])
+    requires { ⌜ Sound board × (length (now memory) ≡ memoryBytes board) ⌝ }
+    ensures { λ _. ⌜ now (memory .exit) ≡ flashErased board (now (memory .entry)) ⌝ }
+{
+    let from = board.flash_from();
+    buffer::fill(memory, from, from + board.flash_bytes(), 0xFF);
+}
+
+// All flash erased, RAM zero, and the default options.
+pub fn unprotect(board: Board, memory: &mut [u8])
+    requires { ⌜ Sound board × (length (now memory) ≡ memoryBytes board) ⌝ }
+    ensures { λ _. ⌜ now (memory .exit) ≡ unprotected board (now (memory .entry)) ⌝ }
+{
     let defaults = Board::default_options();
-    buffer::fill(memory, 0, ram, 0xFF);
-    buffer::fill(memory, ram, options, 0);
-    buffer::put(memory, options, &defaults);
+    erase_flash(board, memory);
+    clear_ram(board, memory);
+    buffer::put(memory, board.options_from(), &defaults);
 }

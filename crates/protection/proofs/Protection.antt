@@ -1,12 +1,19 @@
--- Laws of `writeProtected` and `anyProtected`. Assumes nothing.
-use mathlib.Core.Path.{_≡_, refl, ap, _∙_}
-use mathlib.Core.Bool.{Bool, true, false, _||_}
-use Prim.Native.Nat.{ℕ, zero, suc, _+_, _-_, _≤_, _<_, _^_}
+-- Laws of `writeProtected` and `anyProtected`, and what protection looks at. Assumes nothing.
+use mathlib.Core.Path.{_≡_, refl, ap, ap₂, _∙_, sym}
+use mathlib.Core.Bool.{Bool, true, false, not, _||_}
+use Prim.Native.Nat.{ℕ, zero, suc, _+_, _-_, _*_, _≤_, _<_, _^_}
 use native.Mathlib.Omega.{arith}
 use native.Mathlib.Numerals.{add-one}
-use native.Mathlib.Nat.{pow-le-pow-right, div-eq-of-lt, lt-of-lt-of-le}
+use native.Mathlib.Nat.{add-zero, pow-le-pow-right, div-eq-of-lt, lt-of-lt-of-le}
+use mathlib.Core.List.{List}
+use lib.Dec.{eqb}
+use lib.ListN.{getD}
+use Rattle.laws.specs.Lists.{allBytes}
+use Rattle.laws.proofs.Lists.{byte-at}
 use Rattle.laws.proofs.Split.{by-eq, or-false}
-use Rattle.protection.specs.Protection.{writeProtected, anyProtected}
+use Rattle.board.specs.declared.Board.{Board}
+use Rattle.board.specs.Layout.{optionsFrom, optionBytes}
+use Rattle.protection.specs.Protection.{lockedFrom, wordFrom, readProtected, wordOf, writeProtected, anyProtected}
 
 -- a page past the bits of the word is protected
 pub protected-past : (word page : ℕ) → word < 2 ^ 32 → 32 ≤ page → writeProtected word page ≡ true
@@ -50,3 +57,36 @@ none-at word zero page e i a b = absurd (omega arith)
 none-at word (suc count) page e i a b =
     let parts = none-parts word count page e in
     by-eq i page (λ h. ap (writeProtected word) h ∙ parts .0) (λ h. none-at word count (suc page) (parts .1) i (omega arith) (omega arith))
+
+-- protection looks at the option bytes alone
+module _ (board : Board) (m w : List ℕ) (same : (k : ℕ) → k < optionBytes → getD m (optionsFrom board + k) 0 ≡ getD w (optionsFrom board + k) 0) where
+  pub word-by-options : wordOf board m ≡ wordOf board w
+  unfolding wordOf wordFrom
+  word-by-options = ap₂ (λ (a b : ℕ). a + b * 256) (same 8 (omega arith)) (same 9 (omega arith))
+
+  pub protection-by-options : readProtected board m ≡ readProtected board w
+  unfolding readProtected lockedFrom
+  protection-by-options =
+      let first : getD m (optionsFrom board) 0 ≡ getD w (optionsFrom board) 0 = ap (λ (k : ℕ). getD m k 0) (sym (add-zero (optionsFrom board))) ∙ same 0 (omega arith) ∙ ap (λ (k : ℕ). getD w k 0) (add-zero (optionsFrom board)) in
+      ap (λ (k : ℕ). not (eqb k 0xAA)) first
+
+-- the option bytes of a memory protect as they do on a card
+module _ (board : Board) (m card : List ℕ) (same : (k : ℕ) → k < optionBytes → getD m (optionsFrom board + k) 0 ≡ getD card k 0) where
+  pub word-by-card : wordOf board m ≡ wordFrom board 0 card
+  unfolding wordOf wordFrom
+  word-by-card = ap₂ (λ (a b : ℕ). a + b * 256) (same 8 (omega arith)) (same 9 (omega arith))
+
+  pub protection-by-card : readProtected board m ≡ lockedFrom 0 card
+  unfolding readProtected lockedFrom
+  protection-by-card =
+      let first : getD m (optionsFrom board) 0 ≡ getD card 0 0 = ap (λ (k : ℕ). getD m k 0) (sym (add-zero (optionsFrom board))) ∙ same 0 (omega arith) in
+      ap (λ (k : ℕ). not (eqb k 0xAA)) first
+
+-- the word of a card's bytes has 32 bits at most
+pub word-small : (board : Board) (card : List ℕ) → allBytes card ≡ true → wordFrom board 0 card < 2 ^ 32
+unfolding wordFrom
+word-small board card bytes =
+    let a : getD card 8 0 < 256 = byte-at card 8 bytes in
+    let b : getD card 9 0 < 256 = byte-at card 9 bytes in
+    let c : getD card 8 0 + getD card 9 0 * 256 < 4294967296 = omega arith in
+    c

@@ -12,14 +12,14 @@ pub fn locked(bytes: &[u8], from: u32) -> bool
 
 // Is reading and writing of the board's memory forbidden?
 pub fn read_protected(board: Board, memory: &[u8]) -> bool
-    ensures { λ r. ⌜ r ≡ readProtected (board .pages) (now (memory .entry)) ⌝ }
+    ensures { λ r. ⌜ r ≡ readProtected board (now (memory .entry)) ⌝ }
 {
     locked(memory, board.options_from() as u32)
 }
 
 // The two option bytes that hold a bit a page, as one number; the option bytes begin at place `from`.
-pub fn word(bytes: &[u8], from: u32) -> u32
-    ensures { λ r. ⌜ r ≡ wordFrom from (now (bytes .entry)) ⌝ }
+pub fn word(board: Board, bytes: &[u8], from: u32) -> u32
+    ensures { λ r. ⌜ r ≡ wordFrom board from (now (bytes .entry)) ⌝ }
 {
     let at = from as usize;
     let low = buffer::byte_at(bytes, at + 8);
@@ -29,9 +29,9 @@ pub fn word(bytes: &[u8], from: u32) -> u32
 
 // The protection word of the board's memory.
 pub fn protection_word(board: Board, memory: &[u8]) -> u32
-    ensures { λ r. ⌜ r ≡ wordOf (board .pages) (now (memory .entry)) ⌝ }
+    ensures { λ r. ⌜ r ≡ wordOf board (now (memory .entry)) ⌝ }
 {
-    word(memory, board.options_from() as u32)
+    word(board, memory, board.options_from() as u32)
 }
 
 // Is the page's bit clear in the protection word? A page that has no bit there is protected.
@@ -58,8 +58,8 @@ pub fn any_protected(word: u32, count: usize) -> bool
 }
 
 // The option byte that holds the page's bit.
-pub fn option_of(page: usize) -> usize
-    ensures { λ r. ⌜ r ≡ optionOf page ⌝ }
+pub fn option_of(board: Board, page: usize) -> usize
+    ensures { λ r. ⌜ r ≡ optionOf board page ⌝ }
 {
     8 + page / 8 % 2
 }

@@ -2,6 +2,7 @@
 use mathlib.Core.Bool.{Bool, true, false, cond, not, _&&_, _||_}
 use Prim.Native.Nat.{ℕ}
 use lib.Dec.{eqb, leb}
+use Rattle.board.specs.declared.Board.{Board}
 use Rattle.board.specs.declared.Place.{Place}
 use Rattle.board.specs.declared.Place.the-variants.{Flash, Ram, Options, Outside}
 use Rattle.board.specs.Span.{placeOf}
@@ -20,8 +21,8 @@ isPlace (Options at) = true
 isPlace Outside = false
 
 -- "the pointer lies in a region"
-unfoldable pub inRegion : ℕ → ℕ → Bool
-inRegion n address = isPlace (placeOf n address 1)
+unfoldable pub inRegion : Board → ℕ → Bool
+inRegion board address = isPlace (placeOf board address 1)
 
 -- "a pending write has block number 2 or more and length 1 to 2,048"
 abbrev pub writeFits : ℕ → ℕ → Bool
@@ -43,5 +44,5 @@ statusFits mode status =
     (eqb status 0)
 
 -- "Well formed", in the order of its sentence
-unfoldable pub wellFormed : ℕ → Device → Bool
-wellFormed n d = inRegion n (d .pointer) && (pendingFits (d .mode) (d .pending) && statusFits (d .mode) (d .status))
+unfoldable pub wellFormed : Board → Device → Bool
+wellFormed board d = inRegion board (d .pointer) && (pendingFits (d .mode) (d .pending) && statusFits (d .mode) (d .status))

@@ -10,7 +10,7 @@ use request::Setup;
 
 // Is this a state that the loader can be in?
 pub fn well_formed(device: Device, board: Board) -> bool
-    ensures { λ r. ⌜ r ≡ wellFormed (board .pages) device ⌝ }
+    ensures { λ r. ⌜ r ≡ wellFormed board device ⌝ }
 {
     let mode = device.mode;
     let pending = device.pending;
@@ -25,7 +25,7 @@ pub fn well_formed(device: Device, board: Board) -> bool
 
 // Does the address lie in a region?
 pub fn in_region(board: Board, address: u32) -> bool
-    ensures { λ r. ⌜ r ≡ inRegion (board .pages) address ⌝ }
+    ensures { λ r. ⌜ r ≡ inRegion board address ⌝ }
 {
     let place = board.place(address as u64, 1);
     match place {

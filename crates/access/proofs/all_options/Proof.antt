@@ -10,17 +10,17 @@ options-from-requires c κs = search needs
 
 returns : tie.Need-returns
 returns c =
-    let is = c .before .options-from .ensures in
+    let is = c .before .options-from .ensures .0 in
     simp (ne-eqb _ _ (λ e. c .if1 .taken (e ∙ sym is)))
 
 returns-2 : tie.Need-returns-2
 returns-2 c =
-    let is = c .before .before .options-from .ensures in
+    let is = c .before .before .options-from .ensures .0 in
     simp (eq-eqb _ _ (c .before .if1 .left ∙ is), ne-eqb _ _ (c .if2 .taken))
 
 returns-3 : tie.Need-returns-3
 returns-3 c =
-    let is = c .before .before .options-from .ensures in
+    let is = c .before .before .options-from .ensures .0 in
     simp (eq-eqb _ _ (c .before .if1 .left ∙ is), c .if2 .left)
 
 pub all-options-spec : {M : Type 1} → statement M

@@ -9,10 +9,13 @@ write-protected-requires : tie.Need-write-protected-requires
 write-protected-requires c κs = search needs
 
 returns : tie.Need-returns
-returns c = erased-kept _ _ _ (sym (c .before .write-protected .ensures) ∙ c .if1 .taken)
+returns c = erased-kept _ _ _ _ (sym (c .before .write-protected .ensures) ∙ c .if1 .taken)
 
-mul-from : tie.Need-mul-from
-mul-from c = search needs
+page-from-requires : tie.Need-page-from-requires
+page-from-requires c κs = search needs
+
+page-bytes-requires : tie.Need-page-bytes-requires
+page-bytes-requires c κs = search needs
 
 add-fill : tie.Need-add-fill
 add-fill c = search needs
@@ -25,8 +28,10 @@ same-length c = search needs
 
 returns-2 : tie.Need-returns-2
 returns-2 c =
-    let t = c .before .before .before .before in
-    erased-open _ _ _ _ (sym (t .before .write-protected .ensures) ∙ t .if1 .left) (c .before .before .fill .ensures)
+    let b = c .before .before .before in
+    let f = b .before .before in
+    let t = f .before in
+    erased-open _ _ _ _ _ (sym (t .before .write-protected .ensures) ∙ t .if1 .left) (rw (f .page-from .ensures, b .page-bytes .ensures) at (c .before .before .fill .ensures))
 
 pub erase-spec : {M : Type 1} → statement M
 erase-spec =
@@ -34,7 +39,8 @@ erase-spec =
     (tie.spec
     write-protected-requires
     returns
-    mul-from
+    page-from-requires
+    page-bytes-requires
     add-fill
     fill-requires
     same-length

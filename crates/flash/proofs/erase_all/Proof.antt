@@ -1,28 +1,33 @@
 -- `flash::erase_all` meets its contract. Assumes nothing.
 use native.Mathlib.Nat.{sub-zero}
 use native.Mathlib.Omega.{arith}
-use Rattle.flash.proofs.Flash.{pages-turn, pages-end, erased-length}
-use Rattle.flash.specs.Flash.{erasedFrom, erasedAll}
+use Rattle.flash.proofs.Flash.{pages-turn, pages-end, pages-whole, erased-length}
+use Rattle.flash.specs.Flash.{erasedFrom}
 use lib.ListN.{length}
-use Prim.Native.Nat.{_-_}
+use Prim.Native.Nat.{_-_, _<_}
+use Rattle.board.specs.Layout.{flashPages}
+use Rattle.board.proofs.Pages.{page-in-memory}
 use mathlib.Core.Path.{_≡_, refl, ap, sym, _∙_}
 use Rattle.flash.proofs.erase_all.Statement.{statement}
 use Rattle.flash.proofs.erase_all.Tie as tie
 
 abbrev Inv-loop : tie.InvT-loop
-Inv-loop memory₀ word pages page₀ memory page = (erasedFrom word (pages - page) page memory ≡ erasedFrom word pages 0 memory₀) × (length memory ≡ length memory₀)
+Inv-loop board memory₀ word pages page₀ memory page = (erasedFrom board word (pages - page) page memory ≡ erasedFrom board word pages 0 memory₀) × (length memory ≡ length memory₀)
 
 abbrev μ-loop : tie.MeasureT-loop
-μ-loop memory₀ word pages page₀ memory page = pages - page
+μ-loop board memory₀ word pages page₀ memory page = pages - page
 
-cast-pages : tie.Need-cast-pages Inv-loop μ-loop
-cast-pages c = omega arith
+flash-pages-requires : tie.Need-flash-pages-requires Inv-loop μ-loop
+flash-pages-requires c κs = tt
 
 loop-holds : tie.Need-loop-holds Inv-loop μ-loop
 loop-holds c = (rw sub-zero, refl)
 
 erase-requires : tie.Need-erase-requires Inv-loop μ-loop
-erase-requires c κs = omega arith
+erase-requires c κs =
+    let r = c .before .before .before in
+    let below : c .before .before .loop .page < flashPages (r .before .before .args .board) = rw (sym (r .flash-pages .ensures)) (c .before .loop-test .taken) in
+    (below, omega (arith, page-in-memory _ (r .before .before .pre .0) _ below))
 
 add-page : tie.Need-add-page Inv-loop μ-loop
 add-page c = omega arith
@@ -34,15 +39,15 @@ loop-again : tie.Need-loop-again Inv-loop μ-loop
 loop-again c =
     let e = c .before .before in
     let l = e .before .before .before in
-    let s = l .before .before .before in
-    (rw (e .erase .ensures) (sym (pages-turn _ _ _ _ (e .before .before .loop-test .taken)) ∙ l .loop .inv .0), ap length (e .erase .ensures) ∙ erased-length _ _ _ (omega arith) ∙ l .loop .inv .1)
+    let r = l .before in
+    let below : l .loop .page < flashPages (r .before .before .args .board) = rw (sym (r .flash-pages .ensures)) (e .before .before .loop-test .taken) in
+    (rw (e .erase .ensures) (sym (pages-turn _ _ _ _ _ (e .before .before .loop-test .taken)) ∙ l .loop .inv .0), ap length (e .erase .ensures) ∙ erased-length _ _ _ _ (omega (arith, page-in-memory _ (r .before .before .pre .0) _ below)) ∙ l .loop .inv .1)
 
 same-length : tie.Need-same-length Inv-loop μ-loop
 same-length c = c .before .loop .inv .1
 
 returns : tie.Need-returns Inv-loop μ-loop
-unfolding erasedAll
-returns c = sym (pages-end _ _ _ _ (c .loop-test .left)) ∙ c .before .loop .inv .0
+returns c = sym (pages-end _ _ _ _ _ (c .loop-test .left)) ∙ c .before .loop .inv .0 ∙ pages-whole _ _ _ _ (c .before .before .flash-pages .ensures)
 
 pub erase-all-spec : {M : Type 1} → statement M
 erase-all-spec =
@@ -50,7 +55,7 @@ erase-all-spec =
     (tie.spec
     Inv-loop
     μ-loop
-    cast-pages
+    flash-pages-requires
     loop-holds
     erase-requires
     add-page

@@ -12,19 +12,19 @@ use Rattle.flash.proofs.store.Statement.{statement}
 use Rattle.flash.proofs.store.Tie as tie
 
 abbrev Inv-loop : tie.InvT-loop
-Inv-loop memory₀ word at source i₀ memory i = (stored word (at + i) (drop i source) memory ≡ stored word at source memory₀) × (length memory ≡ length memory₀)
+Inv-loop board memory₀ word at source i₀ memory i = (stored board word (at + i) (drop i source) memory ≡ stored board word at source memory₀) × (length memory ≡ length memory₀)
 
 abbrev μ-loop : tie.MeasureT-loop
-μ-loop memory₀ word at source i₀ memory i = length source - i
+μ-loop board memory₀ word at source i₀ memory i = length source - i
 
 loop-holds : tie.Need-loop-holds Inv-loop μ-loop
 loop-holds c = (rw add-zero, refl)
 
-add-write-protected : tie.Need-add-write-protected Inv-loop μ-loop
-add-write-protected c = omega arith
+add-is-kept : tie.Need-add-is-kept Inv-loop μ-loop
+add-is-kept c = omega arith
 
-write-protected-requires : tie.Need-write-protected-requires Inv-loop μ-loop
-write-protected-requires c κs = omega arith
+is-kept-requires : tie.Need-is-kept-requires Inv-loop μ-loop
+is-kept-requires c κs = tt
 
 shared-slice-read-memory : tie.Need-shared-slice-read-memory Inv-loop μ-loop
 shared-slice-read-memory c = omega arith
@@ -45,17 +45,17 @@ loop-again : tie.Need-loop-again Inv-loop μ-loop
 loop-again c =
     let l = c .before .before .before .loop in
     let more = c .before .before .loop-test .taken in
-    let is = sym (c .before .write-protected .ensures) in
+    let is = sym (c .before .is-kept .ensures) in
     ⊎-elim
-    (λ w. (stored-open _ _ _ _ _ _ more (omega arith) (is ∙ not-true _ (w .0 .taken)) (w .2) ∙ l .inv .0, ap length (w .2) ∙ simp length-set (l .inv .1)))
-    (λ w. (stored-kept _ _ _ _ _ _ more (omega arith) (is ∙ not-false _ (w .0 .left)) (w .1) ∙ l .inv .0, ap length (w .1) ∙ l .inv .1))
+    (λ w. (stored-open _ _ _ _ _ _ _ more (omega arith) (is ∙ not-true _ (w .0 .taken)) (w .2) ∙ l .inv .0, ap length (w .2) ∙ simp length-set (l .inv .1)))
+    (λ w. (stored-kept _ _ _ _ _ _ _ more (omega arith) (is ∙ not-false _ (w .0 .left)) (w .1) ∙ l .inv .0, ap length (w .1) ∙ l .inv .1))
     (c .if1 .came)
 
 same-length : tie.Need-same-length Inv-loop μ-loop
 same-length c = c .before .loop .inv .1
 
 returns : tie.Need-returns Inv-loop μ-loop
-returns c = sym (stored-end _ _ _ _ _ (c .loop-test .left)) ∙ c .before .loop .inv .0
+returns c = sym (stored-end _ _ _ _ _ _ (c .loop-test .left)) ∙ c .before .loop .inv .0
 
 pub store-spec : {M : Type 1} → statement M
 store-spec =
@@ -64,8 +64,8 @@ store-spec =
     Inv-loop
     μ-loop
     loop-holds
-    add-write-protected
-    write-protected-requires
+    add-is-kept
+    is-kept-requires
     shared-slice-read-memory
     add-memory
     slice-write-memory

@@ -15,7 +15,7 @@ word-requires c κs = search needs
 
 returns : tie.Need-returns
 unfolding wordOf
-returns c = simp (c .word .ensures, c .before .options-from .ensures)
+returns c = simp (c .word .ensures, c .before .options-from .ensures .0)
 
 pub protection-word-spec : {M : Type 1} → statement M
 protection-word-spec = tie.close (tie.spec options-from-requires cast-word word-requires returns)

@@ -15,7 +15,7 @@ locked-requires c κs = search needs
 
 returns : tie.Need-returns
 unfolding readProtected
-returns c = simp (c .locked .ensures, c .before .options-from .ensures)
+returns c = simp (c .locked .ensures, c .before .options-from .ensures .0)
 
 pub read-protected-spec : {M : Type 1} → statement M
 read-protected-spec =

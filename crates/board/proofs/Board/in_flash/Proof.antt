@@ -14,10 +14,10 @@ within-requires : tie.Need-within-requires
 within-requires c κs = search needs
 
 returns : tie.Need-returns
-unfolding inFlash
+unfolding inFlash flashFirst
 returns c =
     let s = c .before .before .args in
-    c .within .ensures ∙ ap (λ (k : ℕ). spans flashFirst k (s .address) (s .count)) (c .before .flash-bytes .ensures)
+    c .within .ensures ∙ ap (λ (k : ℕ). spans (flashFirst (s .self)) k (s .address) (s .count)) (c .before .flash-bytes .ensures)
 
 pub in-flash-spec : {M : Type 1} → statement M
 in-flash-spec = tie.close (tie.spec flash-bytes-requires within-requires returns)
