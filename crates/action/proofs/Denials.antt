@@ -4,6 +4,7 @@ use mathlib.Core.Bool.{Bool, true, false, _&&_}
 use Prim.Native.Nat.{ℕ}
 use lib.Dec.{T, eqb, ltb}
 use Rattle.laws.proofs.Split.{by-bool}
+use Rattle.board.specs.declared.Board.{Board}
 use Rattle.board.specs.declared.Place.{Place}
 use Rattle.board.specs.declared.Place.the-variants.{Flash, Ram, Options, Outside}
 use Rattle.board.specs.Layout.{optionsFrom, optionBytes}
@@ -20,17 +21,17 @@ Refusing (InFlash at) = T true
 Refusing (InRam at) = T true
 Refusing (InOptions at) = T true
 
-checked-refusing : (n count : ℕ) (place : Place) → Refusing (checkedOf n count place)
-checked-refusing n count (Flash at) = by-bool (ltb count 2) (λ e. rw e refl) (λ e. rw e tt)
-checked-refusing n count (Ram at) = by-bool (ltb count 2) (λ e. rw e refl) (λ e. rw e tt)
-checked-refusing n count (Options at) = by-bool (eqb at (optionsFrom n) && eqb count optionBytes) (λ e. rw e tt) (λ e. rw e refl)
-checked-refusing n count Outside = refl
+checked-refusing : (board : Board) (count : ℕ) (place : Place) → Refusing (checkedOf board count place)
+checked-refusing board count (Flash at) = by-bool (ltb count 2) (λ e. rw e refl) (λ e. rw e tt)
+checked-refusing board count (Ram at) = by-bool (ltb count 2) (λ e. rw e refl) (λ e. rw e tt)
+checked-refusing board count (Options at) = by-bool (eqb at (optionsFrom board) && eqb count optionBytes) (λ e. rw e tt) (λ e. rw e refl)
+checked-refusing board count Outside = refl
 
-access-refusing : (n : ℕ) (protected : Bool) (address count : ℕ) → Refusing (accessOf n protected address count)
+access-refusing : (board : Board) (protected : Bool) (address count : ℕ) → Refusing (accessOf board protected address count)
 unfolding accessOf
-access-refusing n true address count = refl
-access-refusing n false address count = checked-refusing n count (placeOf n address count)
+access-refusing board true address count = refl
+access-refusing board false address count = checked-refusing board count (placeOf board address count)
 
-pub block-refusing : (n : ℕ) (protected : Bool) (block count pointer : ℕ) → Refusing (blockAccess n protected block count pointer)
+pub block-refusing : (board : Board) (protected : Bool) (block count pointer : ℕ) → Refusing (blockAccess board protected block count pointer)
 unfolding blockAccess
-block-refusing n protected block count pointer = access-refusing n protected _ count
+block-refusing board protected block count pointer = access-refusing board protected _ count

@@ -4,6 +4,7 @@ use mathlib.Core.Bool.{Bool, true, false, true≢false}
 use Prim.Native.Nat.{ℕ}
 use lib.Dec.{T}
 use Rattle.laws.proofs.Split.{by-bool}
+use Rattle.board.specs.declared.Board.{Board}
 use Rattle.board.specs.declared.Place.{Place}
 use Rattle.board.specs.declared.Place.the-variants.{Flash, Ram, Options, Outside}
 use Rattle.board.specs.Span.{placeOf}
@@ -21,45 +22,45 @@ use Rattle.action.specs.Action.{pointOf, eraseAt, storeAt, actionIn, mov
 use Rattle.action.proofs.Denials.{Refusing, block-refusing}
 
 -- an action whose own status is one of the error mode's, and whose pointer lies in a region
-abbrev pub Proper : ℕ → Action → Type 0
-Proper n Rest = T true
-Proper n (Fail status) = statusFits Error status ≡ true
-Proper n (Point address) = inRegion n address ≡ true
-Proper n (Erase page) = T true
-Proper n EraseAll = T true
-Proper n Unprotect = T true
-Proper n ClearRam = T true
-Proper n (StoreFlash at count) = T true
-Proper n (StoreRam at count) = T true
-Proper n (StoreOptions at count) = T true
+abbrev pub Proper : Board → Action → Type 0
+Proper board Rest = T true
+Proper board (Fail status) = statusFits Error status ≡ true
+Proper board (Point address) = inRegion board address ≡ true
+Proper board (Erase page) = T true
+Proper board EraseAll = T true
+Proper board Unprotect = T true
+Proper board ClearRam = T true
+Proper board (StoreFlash at count) = T true
+Proper board (StoreRam at count) = T true
+Proper board (StoreOptions at count) = T true
 
-store-proper : (n count : ℕ) (access : Access) → Refusing access → Proper n (storeAt access count)
-store-proper n count (Denied status) r = r
-store-proper n count (InFlash at) r = tt
-store-proper n count (InRam at) r = tt
-store-proper n count (InOptions at) r = tt
+store-proper : (board : Board) (count : ℕ) (access : Access) → Refusing access → Proper board (storeAt access count)
+store-proper board count (Denied status) r = r
+store-proper board count (InFlash at) r = tt
+store-proper board count (InRam at) r = tt
+store-proper board count (InOptions at) r = tt
 
-point-proper : (n address : ℕ) → Proper n (pointOf n address)
-point-proper n address = by-bool (inRegion n address) (λ e. rw e e) (λ e. rw e refl)
+point-proper : (board : Board) (address : ℕ) → Proper board (pointOf board address)
+point-proper board address = by-bool (inRegion board address) (λ e. rw e e) (λ e. rw e refl)
 
-erase-at-proper : (n : ℕ) (place : Place) → Proper n (eraseAt place)
-erase-at-proper n (Flash at) = tt
-erase-at-proper n (Ram at) = refl
-erase-at-proper n (Options at) = refl
-erase-at-proper n Outside = refl
+erase-at-proper : (board : Board) (place : Place) → Proper board (eraseAt board place)
+erase-at-proper board (Flash at) = tt
+erase-at-proper board (Ram at) = refl
+erase-at-proper board (Options at) = refl
+erase-at-proper board Outside = refl
 
-pub action-proper : (n : ℕ) (protected : Bool) (pointer : ℕ) (pending : Pending) → Proper n (actionIn pending n protected pointer)
-action-proper n protected pointer Nothing = tt
-action-proper n protected pointer (SetPointer address) = point-proper n address
-action-proper n true pointer (ErasePage address) = refl
-action-proper n false pointer (ErasePage address) = erase-at-proper n (placeOf n address 1)
-action-proper n true pointer MassErase = refl
-action-proper n false pointer MassErase = tt
-action-proper n true pointer ReadUnprotect = tt
-action-proper n false pointer ReadUnprotect = tt
-action-proper n protected pointer (Write block count) =
-    store-proper n count (blockAccess n protected block count pointer) (block-refusing n protected block count pointer)
+pub action-proper : (board : Board) (protected : Bool) (pointer : ℕ) (pending : Pending) → Proper board (actionIn pending board protected pointer)
+action-proper board protected pointer Nothing = tt
+action-proper board protected pointer (SetPointer address) = point-proper board address
+action-proper board true pointer (ErasePage address) = refl
+action-proper board false pointer (ErasePage address) = erase-at-proper board (placeOf board address 1)
+action-proper board true pointer MassErase = refl
+action-proper board false pointer MassErase = tt
+action-proper board true pointer ReadUnprotect = tt
+action-proper board false pointer ReadUnprotect = tt
+action-proper board protected pointer (Write block count) =
+    store-proper board count (blockAccess board protected block count pointer) (block-refusing board protected block count pointer)
 
 -- an action that ran without error
-pub went-well : (n pointer : ℕ) (action : Action) → inRegion n (movedOf action pointer) ≡ true → Sane n (ranOf action pointer 0)
-went-well n pointer action h = record { well = λ e. h; ill = λ e. absurd (true≢false e) }
+pub went-well : (board : Board) (pointer : ℕ) (action : Action) → inRegion board (movedOf action pointer) ≡ true → Sane board (ranOf action pointer 0)
+went-well board pointer action h = record { well = λ e. h; ill = λ e. absurd (true≢false e) }

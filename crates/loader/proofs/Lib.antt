@@ -4,3 +4,4 @@ pub mod Outcomes
 pub mod Order
 pub mod Form
 pub mod Theorems
+pub mod Deeds

@@ -8,7 +8,8 @@ use Rattle.device.specs.declared.Device.{Device}
 use Rattle.loader.specs.declared.Event.{Event}
 use Rattle.loader.specs.declared.Sizes.{Sizes}
 use Rattle.loader.specs.Step.{stepRefusals}
+use Rattle.board.specs.declared.Board.{Board}
 
-pub step-in-order : (n : ℕ) (d : Device) (e : Event) (q : List ℕ) (s : Sizes) → inOrder (stepRefusals n d e q s) ≡ true
+pub step-in-order : (board : Board) (d : Device) (e : Event) (q : List ℕ) (s : Sizes) → inOrder (stepRefusals board d e q s) ≡ true
 unfolding met before beforeAll inOrder
-step-in-order n d e q s = refl
+step-in-order board d e q s = refl

@@ -2,8 +2,10 @@
 use mathlib.Core.Path.{_≡_, _∙_, sym}
 use mathlib.Core.Bool.{true}
 use mathlib.Core.List.{List}
-use Prim.Native.Nat.{ℕ, _≤_}
-use Rattle.board.specs.Layout.{loggerPages}
+use Prim.Native.Nat.{ℕ}
+use Rattle.board.specs.declared.Board.{Board}
+use Rattle.board.specs.Layout.{logger}
+use Rattle.board.specs.Sound.{Sound}
 use Rattle.refusal.specs.declared.Refusal.{Refusal}
 use Rattle.refusal.specs.Refusal.{numberOf}
 use Rattle.refusal.specs.Order.{before}
@@ -24,7 +26,7 @@ use Rattle.loader.proofs.Form.{step-form}
 
 -- what the promise of `step` allows, for one call
 abbrev pub Allowed : Device → Event → List ℕ → List ℕ → List ℕ → List ℕ → Stepped → List ℕ → List ℕ → List ℕ → Type 0
-Allowed d e q m b y r m′ b′ y′ = left r m′ b′ y′ ≡ stepOf loggerPages d e q m b y
+Allowed d e q m b y r m′ b′ y′ = left r m′ b′ y′ ≡ stepOf logger d e q m b y
 
 -- two outcomes that the promise allows are equal: answer, device and all three buffers
 pub one-outcome : (d : Device) (e : Event) (q m b y : List ℕ) (r₁ r₂ : Stepped) (m₁ b₁ y₁ m₂ b₂ y₂ : List ℕ) → Allowed d e q m b y r₁ m₁ b₁ y₁ → Allowed d e q m b y r₂ m₂ b₂ y₂ → (r₁ ≡ r₂) × (m₁ ≡ m₂) × (b₁ ≡ b₂) × (y₁ ≡ y₂)
@@ -32,27 +34,27 @@ one-outcome d e q m b y r₁ r₂ m₁ b₁ y₁ m₂ b₂ y₂ p₁ p₂ =
     let same = p₁ ∙ sym p₂ in
     (left-stepped r₁ r₂ m₁ b₁ y₁ m₂ b₂ y₂ same, left-memory r₁ r₂ m₁ b₁ y₁ m₂ b₂ y₂ same, left-block r₁ r₂ m₁ b₁ y₁ m₂ b₂ y₂ same, left-reply r₁ r₂ m₁ b₁ y₁ m₂ b₂ y₂ same)
 
-module _ (n : ℕ) (d : Device) (e : Event) (q m b y : List ℕ) where
+module _ (board : Board) (d : Device) (e : Event) (q m b y : List ℕ) where
   -- a refusal leaves the device and every buffer as they were
-  pub refused-changes-nothing : (r : Refusal) → admittedOf n d e q (sizesOf m b y) ≡ admission.Refused r → stepOf n d e q m b y ≡ outcome (answer.Refused r) d m b y
+  pub refused-changes-nothing : (r : Refusal) → admittedOf board d e q (sizesOf m b y) ≡ admission.Refused r → stepOf board d e q m b y ≡ outcome (answer.Refused r) d m b y
   unfolding stepOf
   refused-changes-nothing r a = rw a
 
   -- a refusal is the first row that applies
-  pub refused-first : (r : Refusal) → admittedOf n d e q (sizesOf m b y) ≡ admission.Refused r → First (stepRefusals n d e q (sizesOf m b y)) r
+  pub refused-first : (r : Refusal) → admittedOf board d e q (sizesOf m b y) ≡ admission.Refused r → First (stepRefusals board d e q (sizesOf m b y)) r
   unfolding admittedOf
-  refused-first r a = first-exactly (stepRefusals n d e q (sizesOf m b y)) (admission.Refused r) .0 a
+  refused-first r a = first-exactly (stepRefusals board d e q (sizesOf m b y)) (admission.Refused r) .0 a
 
   -- so none applies whose number comes before its own
-  pub refused-in-order : (r : Refusal) → admittedOf n d e q (sizesOf m b y) ≡ admission.Refused r → (k : ℕ) → before k (numberOf r) ≡ true → Applies (stepRefusals n d e q (sizesOf m b y)) k → ⊥
+  pub refused-in-order : (r : Refusal) → admittedOf board d e q (sizesOf m b y) ≡ admission.Refused r → (k : ℕ) → before k (numberOf r) ≡ true → Applies (stepRefusals board d e q (sizesOf m b y)) k → ⊥
   unfolding admittedOf
-  refused-in-order r a = none-before (stepRefusals n d e q (sizesOf m b y)) r (step-in-order n d e q (sizesOf m b y)) a
+  refused-in-order r a = none-before (stepRefusals board d e q (sizesOf m b y)) r (step-in-order board d e q (sizesOf m b y)) a
 
   -- where no refusal is given, no row applies
-  pub admitted-faultless : admittedOf n d e q (sizesOf m b y) ≡ admission.Admitted → NoneApply (stepRefusals n d e q (sizesOf m b y))
+  pub admitted-faultless : admittedOf board d e q (sizesOf m b y) ≡ admission.Admitted → NoneApply (stepRefusals board d e q (sizesOf m b y))
   unfolding admittedOf
-  admitted-faultless a = first-exactly (stepRefusals n d e q (sizesOf m b y)) admission.Admitted .0 a
+  admitted-faultless a = first-exactly (stepRefusals board d e q (sizesOf m b y)) admission.Admitted .0 a
 
   -- a well-formed state stays well formed, so that no run of events ends in refusal 4
-  pub step-keeps-form : 1 ≤ n → wellFormed n d ≡ true → wellFormed n (stepOf n d e q m b y .device) ≡ true
-  step-keeps-form h w = well-formed n (stepOf n d e q m b y .device) (step-form n d e q m b y h (form-of n d w))
+  pub step-keeps-form : Sound board → wellFormed board d ≡ true → wellFormed board (stepOf board d e q m b y .device) ≡ true
+  step-keeps-form sound w = well-formed board (stepOf board d e q m b y .device) (step-form board sound d e q m b y (form-of board d w))

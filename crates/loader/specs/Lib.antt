@@ -1,5 +1,4 @@
 pub mod Answer
-pub mod Perform
 pub mod Serve
 pub mod Step
 pub mod Inner

@@ -5,6 +5,7 @@ use Prim.Native.Nat.{ℕ}
 use lib.Dec.{eqb}
 use lib.ListN.{length, take, drop}
 use Rattle.laws.specs.Bytes.{put}
+use Rattle.board.specs.declared.Board.{Board}
 use Rattle.protection.specs.Protection.{readProtected}
 use Rattle.request.specs.declared.Setup.{Setup}
 use Rattle.request.specs.Setup.{setupOf}
@@ -23,9 +24,9 @@ use Rattle.access.specs.declared.Access.the-variants.{Denied, InFlash, InRam, I
 use Rattle.action.specs.declared.Action.{Action}
 use Rattle.access.specs.Access.{blockAccess}
 use Rattle.action.specs.Action.{actionOf, ranOf}
+use Rattle.perform.specs.Perform.{performedOf}
 use Rattle.loader.specs.declared.Answer.the-variants.{Accepted, Reply, Stall, Silent}
 use Rattle.loader.specs.Answer.{Outcome, outcome}
-use Rattle.loader.specs.Perform.{performedOf}
 
 -- "The poll time is 100 when mode 4 is reported, else 0"
 abbrev pub pollOf : ℕ → ℕ
@@ -45,13 +46,13 @@ abbrev pub run : Ran → List ℕ → Run
 run r m = record { ran = r; memory = m }
 
 -- the pending command, run on memory m
-abbrev pub performs : ℕ → Action → Device → List ℕ → List ℕ → Run
-performs n action d b m = run (ranOf action (d .pointer) (performedOf n action b m .status)) (performedOf n action b m .memory)
+abbrev pub performs : Board → Action → Device → List ℕ → List ℕ → Run
+performs board action d b m = run (ranOf action (d .pointer) (performedOf board action b m .status)) (performedOf board action b m .memory)
 
 -- "In mode 3 the command runs first"; in the others nothing is pending
-unfoldable pub runOf : ℕ → Device → List ℕ → List ℕ → Run
-runOf n d b m =
-    cond (isMode 3 (d .mode)) (performs n (actionOf n (readProtected n m) d) d b m)
+unfoldable pub runOf : Board → Device → List ℕ → List ℕ → Run
+runOf board d b m =
+    cond (isMode 3 (d .mode)) (performs board (actionOf board (readProtected board m) d) d b m)
     (run (nothingRan d) m)
 
 -- "GETSTATUS", r being what ran
@@ -59,8 +60,8 @@ abbrev pub reported : Run → Device → List ℕ → List ℕ → Outcome
 reported r d b y = outcome (Reply 6) (afterStatus d (r .ran)) (r .memory) b (put 0 (statusBytes (reportOf d (r .ran))) y)
 
 -- "GETSTATUS" in any mode
-unfoldable pub statusOf : ℕ → Device → List ℕ → List ℕ → List ℕ → Outcome
-statusOf n d m b y = reported (runOf n d b m) d b y
+unfoldable pub statusOf : Board → Device → List ℕ → List ℕ → List ℕ → Outcome
+statusOf board d m b y = reported (runOf board d b m) d b y
 
 -- "UPLOAD": memory from place `at` on
 abbrev pub sentOf : ℕ → ℕ → Device → List ℕ → List ℕ → List ℕ → Outcome
@@ -74,24 +75,24 @@ readAt (InRam at) count d m b y = sentOf at count d m b y
 readAt (InOptions at) count d m b y = sentOf at count d m b y
 
 -- "UPLOAD" of memory, with the block address and the checks
-unfoldable pub uploadedOf : ℕ → Device → Setup → List ℕ → List ℕ → List ℕ → Outcome
-uploadedOf n d s m b y = readAt (blockAccess n (readProtected n m) (s .value) (s .length) (d .pointer)) (s .length) d m b y
+unfoldable pub uploadedOf : Board → Device → Setup → List ℕ → List ℕ → List ℕ → Outcome
+uploadedOf board d s m b y = readAt (blockAccess board (readProtected board m) (s .value) (s .length) (d .pointer)) (s .length) d m b y
 
 -- "00 21 41 92"
 abbrev pub commandCodes : List ℕ
 commandCodes = 0x00 ∷ 0x21 ∷ 0x41 ∷ 0x92 ∷ []
 
 -- what a decision comes to; q is the request, and "the data stage is the part of the event after its eighth byte"
-abbrev pub actedOf : Decision → ℕ → Device → List ℕ → List ℕ → List ℕ → List ℕ → Outcome
-actedOf decided.Silent n d q m b y = outcome Silent d m b y
-actedOf (decided.Stall next) n d q m b y = outcome Stall next m b y
-actedOf (decided.Accept next) n d q m b y = outcome Accepted next m b y
-actedOf (decided.Take next) n d q m b y = outcome Accepted next m (put 0 (drop 8 q) b) y
-actedOf (decided.Commands next count) n d q m b y = outcome (Reply count) next m b (put 0 (take count commandCodes) y)
-actedOf decided.Read n d q m b y = uploadedOf n d (setupOf q) m b y
-actedOf decided.State n d q m b y = outcome (Reply 1) d m b (put 0 (wireOf (d .mode) ∷ []) y)
-actedOf decided.Status n d q m b y = statusOf n d m b y
+abbrev pub actedOf : Decision → Board → Device → List ℕ → List ℕ → List ℕ → List ℕ → Outcome
+actedOf decided.Silent board d q m b y = outcome Silent d m b y
+actedOf (decided.Stall next) board d q m b y = outcome Stall next m b y
+actedOf (decided.Accept next) board d q m b y = outcome Accepted next m b y
+actedOf (decided.Take next) board d q m b y = outcome Accepted next m (put 0 (drop 8 q) b) y
+actedOf (decided.Commands next count) board d q m b y = outcome (Reply count) next m b (put 0 (take count commandCodes) y)
+actedOf decided.Read board d q m b y = uploadedOf board d (setupOf q) m b y
+actedOf decided.State board d q m b y = outcome (Reply 1) d m b (put 0 (wireOf (d .mode) ∷ []) y)
+actedOf decided.Status board d q m b y = statusOf board d m b y
 
 -- "Events": a request
-unfoldable pub serveOf : ℕ → Device → List ℕ → List ℕ → List ℕ → List ℕ → Outcome
-serveOf n d q m b y = actedOf (decideOf d (setupOf q) (commandOf (drop 8 q))) n d q m b y
+unfoldable pub serveOf : Board → Device → List ℕ → List ℕ → List ℕ → List ℕ → Outcome
+serveOf board d q m b y = actedOf (decideOf d (setupOf q) (commandOf (drop 8 q))) board d q m b y

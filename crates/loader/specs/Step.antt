@@ -4,6 +4,7 @@ use mathlib.Core.List.{List, [], _∷_}
 use Prim.Native.Nat.{ℕ}
 use lib.Dec.{eqb}
 use lib.ListN.{length}
+use Rattle.board.specs.declared.Board.{Board}
 use Rattle.board.specs.Layout.{memoryBytes}
 use Rattle.refusal.specs.declared.Refusal.{Refusal}
 use Rattle.refusal.specs.declared.Refusal.the-variants as refusal
@@ -28,33 +29,33 @@ misfits event.Attach q = false
 misfits event.Request q = not (fitsOf q)
 
 -- rows 1 to 5
-abbrev pub stepRefusals : ℕ → Device → Event → List ℕ → Sizes → List (Refusal × Bool)
-stepRefusals n d e q s =
-    (refusal.Memory, not (eqb (s .memory) (memoryBytes n)))
+abbrev pub stepRefusals : Board → Device → Event → List ℕ → Sizes → List (Refusal × Bool)
+stepRefusals board d e q s =
+    (refusal.Memory, not (eqb (s .memory) (memoryBytes board)))
     ∷ (refusal.Block, not (eqb (s .block) transferBytes))
     ∷ (refusal.Reply, not (eqb (s .reply) transferBytes))
-    ∷ (refusal.State, not (wellFormed n d))
+    ∷ (refusal.State, not (wellFormed board d))
     ∷ (refusal.Request, misfits e q)
     ∷ []
 
 -- the first of them
-unfoldable pub admittedOf : ℕ → Device → Event → List ℕ → Sizes → Admission
-admittedOf n d e q s = firstOf (stepRefusals n d e q s)
+unfoldable pub admittedOf : Board → Device → Event → List ℕ → Sizes → Admission
+admittedOf board d e q s = firstOf (stepRefusals board d e q s)
 
 -- "Attach .. its answer is Accepted and all buffers stay", or a request
-abbrev pub happens : Event → ℕ → Device → List ℕ → List ℕ → List ℕ → List ℕ → Outcome
-happens event.Attach n d q m b y = outcome Accepted started m b y
-happens event.Request n d q m b y = serveOf n d q m b y
+abbrev pub happens : Event → Board → Device → List ℕ → List ℕ → List ℕ → List ℕ → Outcome
+happens event.Attach board d q m b y = outcome Accepted (started board) m b y
+happens event.Request board d q m b y = serveOf board d q m b y
 
 -- "A refusal leaves state and every buffer unchanged"
-abbrev pub steps : Admission → Event → ℕ → Device → List ℕ → List ℕ → List ℕ → List ℕ → Outcome
-steps admission.Admitted e n d q m b y = happens e n d q m b y
-steps (admission.Refused r) e n d q m b y = outcome (Refused r) d m b y
+abbrev pub steps : Admission → Event → Board → Device → List ℕ → List ℕ → List ℕ → List ℕ → Outcome
+steps admission.Admitted e board d q m b y = happens e board d q m b y
+steps (admission.Refused r) e board d q m b y = outcome (Refused r) d m b y
 
 -- the lengths of the three buffers
 abbrev pub sizesOf : List ℕ → List ℕ → List ℕ → Sizes
 sizesOf m b y = record { memory = length m; block = length b; reply = length y }
 
--- an event e on a board with n pages, with the device d, the request q, the memory m, the block buffer b and the reply buffer y
-unfoldable pub stepOf : ℕ → Device → Event → List ℕ → List ℕ → List ℕ → List ℕ → Outcome
-stepOf n d e q m b y = steps (admittedOf n d e q (sizesOf m b y)) e n d q m b y
+-- an event e on a board, with the device d, the request q, the memory m, the block buffer b and the reply buffer y
+unfoldable pub stepOf : Board → Device → Event → List ℕ → List ℕ → List ℕ → List ℕ → Outcome
+stepOf board d e q m b y = steps (admittedOf board d e q (sizesOf m b y)) e board d q m b y

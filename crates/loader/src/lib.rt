@@ -1,5 +1,5 @@
-// The loader: one event at a time, over memory that the caller lends. It decides by value, by the
-// functions of the crates above, and acts on the buffers here.
+// The loader: one event at a time, over memory that the caller lends. It decides by value, by the functions of the
+// crates above, and acts on the buffers here; what a pending command does to memory, `perform` does.
 ghost use mathlib.Core.Path.{_≡_};
 ghost use mathlib.Core.Bool.{true};
 ghost use mathlib.Core.List.{List, [], _∷_};
@@ -7,18 +7,16 @@ ghost use Prim.Native.Nat.{ℕ, _+_, _≤_};
 ghost use lib.ListN.{length, take};
 ghost use Rattle.laws.specs.Bytes.{put};
 ghost use Rattle.refusal.specs.Order.{firstOf};
-ghost use Rattle.board.specs.Layout.{loggerPages, memoryBytes};
+ghost use Rattle.board.specs.Layout.{logger, memoryBytes};
+ghost use Rattle.board.specs.Sound.{Sound};
 ghost use Rattle.request.specs.Request.{transferBytes};
 ghost use Rattle.mode.specs.Wire.{isMode};
 ghost use Rattle.states.specs.WellFormed.{wellFormed};
 ghost use Rattle.loader.specs.Answer.{left};
-ghost use Rattle.action.specs.Reach.{endOf, countOf};
 ghost use Rattle.loader.specs.Inner.{InOrder};
-ghost use Rattle.loader.specs.Perform.{performed, performedOf, writtenOf};
 ghost use Rattle.loader.specs.Serve.{run, runOf, statusBytes, statusOf, pollOf, uploadedOf, sentOf, serveOf, commandCodes};
 ghost use Rattle.loader.specs.Step.{misfits, admittedOf, stepOf};
 use access::Access;
-use action::Action;
 use board::Board;
 use command::Command;
 use decision::Decision;
@@ -67,7 +65,7 @@ pub fn step(
     block: &mut [u8],
     reply: &mut [u8],
 ) -> Stepped
-    ensures { λ r. ⌜ left r (now (memory .exit)) (now (block .exit)) (now (reply .exit)) ≡ stepOf loggerPages device event (now (request .entry)) (now (memory .entry)) (now (block .entry)) (now (reply .entry)) ⌝ }
+    ensures { λ r. ⌜ left r (now (memory .exit)) (now (block .exit)) (now (reply .exit)) ≡ stepOf logger device event (now (request .entry)) (now (memory .entry)) (now (block .entry)) (now (reply .entry)) ⌝ }
 {
     let board = Board::LOGGER;
     let sizes = Sizes {
@@ -79,7 +77,7 @@ pub fn step(
     match admission {
         Admission::Refused(refusal) => answered(device, Answer::Refused(refusal)),
         Admission::Admitted => match event {
-            Event::Attach => answered(device.attach(), Answer::Accepted),
+            Event::Attach => answered(device.attach(board), Answer::Accepted),
             Event::Request => serve(board, device, request, memory, block, reply),
         },
     }
@@ -93,7 +91,7 @@ fn answered(device: Device, answer: Answer) -> Stepped
 
 // The refusals of a step, in their order.
 fn admit(board: Board, device: Device, event: Event, request: &[u8], sizes: Sizes) -> Admission
-    ensures { λ r. ⌜ r ≡ admittedOf (board .pages) device event (now (request .entry)) sizes ⌝ }
+    ensures { λ r. ⌜ r ≡ admittedOf board device event (now (request .entry)) sizes ⌝ }
 {
     if sizes.memory != board.memory_bytes() {
         return Admission::Refused(Refusal::Memory);
@@ -131,8 +129,8 @@ fn serve(
     block: &mut [u8],
     reply: &mut [u8],
 ) -> Stepped
-    requires { ⌜ InOrder (board .pages) device (now request) (now memory) (now block) (now reply) ⌝ }
-    ensures { λ r. ⌜ left r (now (memory .exit)) (now (block .exit)) (now (reply .exit)) ≡ serveOf (board .pages) device (now (request .entry)) (now (memory .entry)) (now (block .entry)) (now (reply .entry)) ⌝ }
+    requires { ⌜ InOrder board device (now request) (now memory) (now block) (now reply) ⌝ }
+    ensures { λ r. ⌜ left r (now (memory .exit)) (now (block .exit)) (now (reply .exit)) ≡ serveOf board device (now (request .entry)) (now (memory .entry)) (now (block .entry)) (now (reply .entry)) ⌝ }
 {
     let setup = Setup::of(request);
     let command = Command::of(&request[8..]);
@@ -170,8 +168,8 @@ fn list_commands(reply: &mut [u8], count: usize)
 
 // UPLOAD of memory: the checks, then the bytes.
 fn upload(board: Board, device: Device, setup: Setup, memory: &[u8], reply: &mut [u8]) -> Stepped
-    requires { ⌜ (length (now memory) ≡ memoryBytes (board .pages)) × (length (now reply) ≡ transferBytes) × (setup .length ≤ transferBytes) ⌝ }
-    ensures { λ r. ⌜ ((b : List ℕ) → left r (now (memory .entry)) b (now (reply .exit)) ≡ uploadedOf (board .pages) device setup (now (memory .entry)) b (now (reply .entry))) ⌝ }
+    requires { ⌜ Sound board × (length (now memory) ≡ memoryBytes board) × (length (now reply) ≡ transferBytes) × (setup .length ≤ transferBytes) ⌝ }
+    ensures { λ r. ⌜ ((b : List ℕ) → left r (now (memory .entry)) b (now (reply .exit)) ≡ uploadedOf board device setup (now (memory .entry)) b (now (reply .entry))) ⌝ }
 {
     let protected = protection::read_protected(board, memory);
     let count = setup.length;
@@ -205,8 +203,8 @@ fn get_status(
     block: &[u8],
     reply: &mut [u8],
 ) -> Stepped
-    requires { ⌜ (length (now memory) ≡ memoryBytes (board .pages)) × (length (now block) ≡ transferBytes) × (length (now reply) ≡ transferBytes) × (wellFormed (board .pages) device ≡ true) ⌝ }
-    ensures { λ r. ⌜ left r (now (memory .exit)) (now (block .entry)) (now (reply .exit)) ≡ statusOf (board .pages) device (now (memory .entry)) (now (block .entry)) (now (reply .entry)) ⌝ }
+    requires { ⌜ Sound board × (length (now memory) ≡ memoryBytes board) × (length (now block) ≡ transferBytes) × (length (now reply) ≡ transferBytes) × (wellFormed board device ≡ true) ⌝ }
+    ensures { λ r. ⌜ left r (now (memory .exit)) (now (block .entry)) (now (reply .exit)) ≡ statusOf board device (now (memory .entry)) (now (block .entry)) (now (reply .entry)) ⌝ }
 {
     let ran = run(board, device, memory, block);
     write_status(device.report(ran), reply);
@@ -236,15 +234,15 @@ fn poll(state: u8) -> u8
 
 // The pending command, if there is one. Otherwise no byte of memory is looked at.
 fn run(board: Board, device: Device, memory: &mut [u8], block: &[u8]) -> Ran
-    requires { ⌜ (length (now memory) ≡ memoryBytes (board .pages)) × (length (now block) ≡ transferBytes) × (wellFormed (board .pages) device ≡ true) ⌝ }
-    ensures { λ r. ⌜ run r (now (memory .exit)) ≡ runOf (board .pages) device (now (block .entry)) (now (memory .entry)) ⌝ }
+    requires { ⌜ Sound board × (length (now memory) ≡ memoryBytes board) × (length (now block) ≡ transferBytes) × (wellFormed board device ≡ true) ⌝ }
+    ensures { λ r. ⌜ run r (now (memory .exit)) ≡ runOf board device (now (block .entry)) (now (memory .entry)) ⌝ }
 {
     if !waits(device) {
         return device.nothing_ran();
     }
     let protected = protection::read_protected(board, memory);
     let action = action::intend(board, protected, device);
-    let status = perform(board, action, memory, block);
+    let status = perform::perform(board, action, memory, block);
     action.ran(device.pointer, status)
 }
 
@@ -254,54 +252,4 @@ fn waits(device: Device) -> bool
 {
     let mode = device.mode;
     mode.wire() == 3
-}
-
-// An action on memory; the answer is its status.
-fn perform(board: Board, action: Action, memory: &mut [u8], block: &[u8]) -> u8
-    requires { ⌜ (length (now memory) ≡ memoryBytes (board .pages)) × (endOf action ≤ memoryBytes (board .pages)) × (countOf action ≤ length (now block)) ⌝ }
-    ensures { λ r. ⌜ performed r (now (memory .exit)) ≡ performedOf (board .pages) action (now (block .entry)) (now (memory .entry)) ⌝ }
-{
-    let word = protection::protection_word(board, memory);
-    match action {
-        Action::Rest => 0,
-        Action::Fail(status) => status,
-        Action::Point(_) => 0,
-        Action::Erase(page) => {
-            flash::erase(memory, word, page);
-            0
-        }
-        Action::EraseAll => {
-            flash::erase_all(board, memory, word);
-            0
-        }
-        Action::Unprotect => {
-            memory::unprotect(board, memory);
-            0
-        }
-        Action::ClearRam => {
-            memory::clear_ram(board, memory);
-            0
-        }
-        Action::StoreFlash { at, count } => write(memory, word, at, &block[0..count as usize]),
-        Action::StoreRam { at, count } => {
-            buffer::put(memory, at, &block[0..count as usize]);
-            0
-        }
-        Action::StoreOptions { at, count } => {
-            buffer::put(memory, at, &block[0..count as usize]);
-            0
-        }
-    }
-}
-
-// A write to flash: tested once, stored once.
-fn write(memory: &mut [u8], word: u32, at: usize, source: &[u8]) -> u8
-    requires { ⌜ at + length (now source) ≤ length (now memory) ⌝ }
-    ensures { λ r. ⌜ performed r (now (memory .exit)) ≡ writtenOf word at (now (source .entry)) (now (memory .entry)) ⌝ }
-{
-    if !flash::is_blank(memory, word, at, source.len()) {
-        return Device::WRITE;
-    }
-    flash::store(memory, word, at, source);
-    0
 }

@@ -7,6 +7,7 @@ ghost use lib.ListN.{length, drop, getD};
 ghost use Rattle.loader.specs.Answer.{left};
 ghost use Rattle.player.specs.Played.{playedOf};
 ghost use Rattle.player.specs.Asked.{waitsOf, askedOf};
+use board::Board;
 use command::Command;
 use decision::Decision;
 use device::Device;
@@ -88,7 +89,8 @@ pub fn asks(piece: &[u8]) -> Asked
     let stage = behind(piece, STAGE);
     let setup = Setup::of(&piece[from..]);
     let command = Command::of(&piece[stage..]);
-    let pending = waits(decision::decide(Device::START, setup, command));
+    let device = Device::start(Board::LOGGER);
+    let pending = waits(decision::decide(device, setup, command));
     Asked {
         event,
         setup,

@@ -7,13 +7,14 @@ mod line;
 mod record;
 mod scene;
 
+use board::Board;
 use device::Device;
 use scene::Lending;
 
 // Room for a record with the longest request behind it, and for every buffer a byte longer than is right.
 const TAPE_ROOM: usize = record::SIZE + record::LONGEST;
 
-const MEMORY_ROOM: usize = 18449;
+const MEMORY_ROOM: usize = Board::LOGGER_MEMORY + 1;
 
 // Lets the event happen, if the record is one, and prints what became of it.
 fn happen(

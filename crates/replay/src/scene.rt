@@ -1,6 +1,7 @@
 // The board that the vectors play on: its three buffers, of right or wrong length, and the device.
 ghost use Prim.Native.Nat.{_≤_};
 use crate::record;
+use board::Board;
 use buffer::byte_at;
 use buffer::least;
 use device::Device;
@@ -8,17 +9,15 @@ use numbers::lent;
 use request::Setup;
 use vectors::ramp;
 
-const MEMORY: u16 = 18448;
+const MEMORY: u16 = Board::LOGGER_MEMORY as u16;
 
-// The same as a number of bytes to paint, with its flash and the option bytes at its end; a block or reply buffer with
-// the byte that is too much.
-const ALL: usize = 18448;
+// The same as a number of bytes to paint, with its flash and its option bytes; a block or reply buffer with the byte
+// that is too much.
+const ALL: usize = Board::LOGGER_MEMORY;
 
-const FLASH: usize = 16384;
+const FLASH: usize = Board::LOGGER_FLASH;
 
-const OPTIONS: usize = 16;
-
-const OPTIONS_AT: usize = ALL - OPTIONS;
+const OPTIONS: usize = Board::OPTION_BYTES;
 
 pub const OTHERS: usize = Setup::TRANSFER as usize + 1;
 
@@ -77,7 +76,7 @@ pub(crate) fn ends_of(
 
 pub(crate) fn empty() -> Lending {
     Lending {
-        device: Device::START,
+        device: Device::start(Board::LOGGER),
         kind: record::SCENE,
         request: 0,
         memory: 0,
@@ -184,10 +183,11 @@ fn lay_options(tape: &[u8], count: usize, memory: &mut [u8]) {
     if tape.len() < 19 {
         return;
     }
-    if memory.len() < ALL {
+    let from = Board::LOGGER.options_from();
+    if memory.len() < from + OPTIONS {
         return;
     }
-    buffer::put(memory, OPTIONS_AT, &tape[3..19]);
+    buffer::put(memory, from, &tape[3..19]);
 }
 
 // Lays into the buffers what the record asks for.

@@ -6,6 +6,9 @@ use Rattle.action.proofs.erase_at.Tie as tie
 enum-known-place : tie.Need-enum-known-place
 enum-known-place c = search needs
 
+page-at-requires : tie.Need-page-at-requires
+page-at-requires c κs = search needs
+
 enum-told : tie.Need-enum-told
 enum-told c = search needs
 
@@ -16,7 +19,7 @@ enum-told-3 : tie.Need-enum-told-3
 enum-told-3 c = search needs
 
 returns : tie.Need-returns
-returns c = simp (c .before .place .given .1)
+returns c = simp (c .before .before .place .given .1, c .page-at .ensures)
 
 returns-2 : tie.Need-returns-2
 returns-2 c = simp (c .enum-told .given .1)
@@ -32,6 +35,7 @@ erase-at-spec =
     tie.close
     (tie.spec
     enum-known-place
+    page-at-requires
     enum-told
     enum-told-2
     enum-told-3

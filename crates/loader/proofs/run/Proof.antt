@@ -28,8 +28,8 @@ intend-requires c κs = search needs
 perform-requires : tie.Need-perform-requires
 perform-requires c κs =
     let s = c .before .before .before .before .before .before .before .before in
-    let f = action-fits _ (c .before .before .read-protected .result) (s .args .device) (s .pre .2) in
-    rw (c .before .intend .ensures) (s .pre .0, f .ends, omega arith)
+    let f = action-fits _ (s .pre .0) (c .before .before .read-protected .result) (s .args .device) (s .pre .3) in
+    rw (c .before .intend .ensures) (s .pre .0, s .pre .1, f, omega (arith, f .count))
 
 ran-requires : tie.Need-ran-requires
 ran-requires c κs = search needs

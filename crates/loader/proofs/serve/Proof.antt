@@ -14,7 +14,7 @@ use Rattle.loader.proofs.serve.Statement.{statement}
 use Rattle.loader.proofs.serve.Tie as tie
 
 -- what the decision x comes to is what is served
-decided : (d : tie.After-decide) (m b y : List ℕ) (x : Decision) → d .decide .result ≡ x → actedOf x (d .before .before .before .before .before .before .before .before .args .board .pages) (d .before .before .before .before .before .before .before .before .args .device) (d .before .before .before .before .before .before .before .before .args .request .now) m b y ≡ serveOf (d .before .before .before .before .before .before .before .before .args .board .pages) (d .before .before .before .before .before .before .before .before .args .device) (d .before .before .before .before .before .before .before .before .args .request .now) m b y
+decided : (d : tie.After-decide) (m b y : List ℕ) (x : Decision) → d .decide .result ≡ x → actedOf x (d .before .before .before .before .before .before .before .before .args .board) (d .before .before .before .before .before .before .before .before .args .device) (d .before .before .before .before .before .before .before .before .args .request .now) m b y ≡ serveOf (d .before .before .before .before .before .before .before .before .args .board) (d .before .before .before .before .before .before .before .before .args .device) (d .before .before .before .before .before .before .before .before .args .request .now) m b y
 decided d m b y x t = serve-is _ _ _ m b y _ _ _ x (d .before .before .before .of .ensures) (d .before .of2 .ensures) (d .decide .ensures) t
 
 of-requires : tie.Need-of-requires
@@ -96,7 +96,7 @@ upload-requires c κs =
     let t = c .before .before in
     let d = t .before .before in
     let s = d .before .before .before .before .before .before .before .before in
-    (s .pre .memory, s .pre .reply, decided-bounded _ _ _ _ _ (d .decide .ensures) (t .enum-told2 .given .1))
+    (s .pre .sound, s .pre .memory, s .pre .reply, decided-bounded _ _ _ _ _ (d .decide .ensures) (t .enum-told2 .given .1))
 
 enum-told-3 : tie.Need-enum-told-3
 enum-told-3 c = search needs

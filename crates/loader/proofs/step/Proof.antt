@@ -1,5 +1,6 @@
 -- `loader::step` meets its contract. Assumes nothing.
 use Rattle.loader.proofs.Admitted.{step-is, step-attaches, step-serves, admitted-in-order}
+use Rattle.board.proofs.Logger.{logger-sound}
 use mathlib.Core.Path.{_∙_, sym}
 use borrow.Author.Needs.{needs}
 use Rattle.loader.proofs.step.Statement.{statement}
@@ -35,7 +36,7 @@ serve-requires c κs =
     let a = r .before .before in
     let i = a .before .before in
     let s = i .before .before .before .before .before in
-    admitted-in-order _ (s .args .device) (s .args .request .now) (s .args .memory .now) (s .args .block .now) (s .args .reply .now) (rw (r .enum-told3 .given .1) at (sym (i .admit .ensures) ∙ a .enum-told .given .1))
+    admitted-in-order _ logger-sound (s .args .device) (s .args .request .now) (s .args .memory .now) (s .args .block .now) (s .args .reply .now) (rw (r .enum-told3 .given .1) at (sym (i .admit .ensures) ∙ a .enum-told .given .1))
 
 returns : tie.Need-returns
 returns c =

@@ -1,5 +1,5 @@
 -- `loader::upload` meets its contract. Assumes nothing.
-use Rattle.loader.proofs.Requests.{read-is, read-granted}
+use Rattle.loader.proofs.Requests.{read-is, read-reached}
 use native.Mathlib.Omega.{arith}
 use mathlib.Core.Path.{_∙_}
 use borrow.Author.Needs.{needs}
@@ -27,7 +27,8 @@ enum-known-access-2 c = search needs
 send-requires : tie.Need-send-requires
 send-requires c κs =
     let a = c .before .before in
-    let g = read-granted _ _ _ _ _ _ _ (a .before .before .examine-block .ensures) (a .access2 .given .1) in
+    let s = a .before .before .before .before .before .before in
+    let g = read-reached _ (s .pre .0) _ _ _ _ _ _ (a .before .before .examine-block .ensures) (a .access2 .given .1) in
     (omega arith, omega arith)
 
 enum-known-access-3 : tie.Need-enum-known-access-3
@@ -36,7 +37,8 @@ enum-known-access-3 c = search needs
 send-requires-2 : tie.Need-send-requires-2
 send-requires-2 c κs =
     let a = c .before .before in
-    let g = read-granted _ _ _ _ _ _ _ (a .before .before .examine-block .ensures) (a .access3 .given .1) in
+    let s = a .before .before .before .before .before .before in
+    let g = read-reached _ (s .pre .0) _ _ _ _ _ _ (a .before .before .examine-block .ensures) (a .access3 .given .1) in
     (omega arith, omega arith)
 
 enum-known-access-4 : tie.Need-enum-known-access-4
@@ -45,7 +47,8 @@ enum-known-access-4 c = search needs
 send-requires-3 : tie.Need-send-requires-3
 send-requires-3 c κs =
     let a = c .before .before in
-    let g = read-granted _ _ _ _ _ _ _ (a .before .before .examine-block .ensures) (a .access4 .given .1) in
+    let s = a .before .before .before .before .before .before in
+    let g = read-reached _ (s .pre .0) _ _ _ _ _ _ (a .before .before .examine-block .ensures) (a .access4 .given .1) in
     (omega arith, omega arith)
 
 returns : tie.Need-returns

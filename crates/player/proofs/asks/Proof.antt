@@ -37,6 +37,9 @@ part-of-end-2 c = search needs
 of-requires-2 : tie.Need-of-requires-2
 of-requires-2 c κs = search needs
 
+start-requires : tie.Need-start-requires
+start-requires c κs = search needs
+
 decide-requires : tie.Need-decide-requires
 decide-requires c κs = search needs
 
@@ -46,10 +49,11 @@ waits-requires c κs = search needs
 returns : tie.Need-returns
 returns c =
     let d = c .before in
-    let s = d .before .before .before in
+    let b = d .before in
+    let s = b .before .before .before in
     let g = s .before .before in
     let f = g .before in
-    asked-by _ _ _ _ _ (f .behind .result) (g .behind2 .result) (f .before .before .before .args .piece .now) (f .before .kind .ensures) (f .behind .ensures .0) (g .behind2 .ensures .0) (s .of .ensures) (d .before .of2 .ensures) (d .decide .ensures) (c .waits .ensures)
+    asked-by _ _ _ _ _ _ (f .behind .result) (g .behind2 .result) (f .before .before .before .args .piece .now) (f .before .kind .ensures) (f .behind .ensures .0) (g .behind2 .ensures .0) (s .of .ensures) (b .before .of2 .ensures) (b .start .ensures) (d .decide .ensures) (c .waits .ensures)
 
 pub asks-spec : {M : Type 1} → statement M
 asks-spec =
@@ -66,6 +70,7 @@ asks-spec =
     part-of-start-2
     part-of-end-2
     of-requires-2
+    start-requires
     decide-requires
     waits-requires
     returns)

@@ -1,11 +1,14 @@
--- `loader::perform` meets its contract. Assumes nothing.
-use Rattle.loader.proofs.Requests.{front-ends}
+-- `perform::perform` meets its contract. Assumes nothing.
+use Rattle.perform.proofs.Front.{front-ends}
+use Rattle.board.specs.Layout.{flashPages}
+use Rattle.board.proofs.Pages.{page-in-memory}
+use Prim.Native.Nat.{_<_}
 use native.Mathlib.Nat.{sub-zero}
 use native.Mathlib.Omega.{arith}
 use mathlib.Core.Path.{_∙_}
 use borrow.Author.Needs.{needs}
-use Rattle.loader.proofs.perform.Statement.{statement}
-use Rattle.loader.proofs.perform.Tie as tie
+use Rattle.perform.proofs.perform.Statement.{statement}
+use Rattle.perform.proofs.perform.Tie as tie
 
 protection-word-requires : tie.Need-protection-word-requires
 protection-word-requires c κs = search needs
@@ -25,8 +28,10 @@ enum-known-action-2 c = search needs
 erase-requires : tie.Need-erase-requires
 erase-requires c κs =
     let a = c .before .before in
-    let ends = rw (a .action2 .given .1) at (a .before .before .before .before .before .before .pre .1) in
-    omega arith
+    let s = a .before .before .before .before .before .before in
+    let pages = rw (a .action2 .given .1) at (s .pre .2 .pages) in
+    let page : a .action2 .given .0 .0 < flashPages (s .args .board) = omega arith in
+    (page, omega (arith, page-in-memory _ (s .pre .0) _ page, s .pre .1))
 
 enum-told-3 : tie.Need-enum-told-3
 enum-told-3 c = search needs
@@ -61,15 +66,15 @@ part-write-start c = search needs
 part-write-end : tie.Need-part-write-end
 part-write-end c =
     let a = c .before .before in
-    let count = rw (a .action3 .given .1) at (a .before .before .before .before .before .before .pre .2) in
+    let count = rw (a .action3 .given .1) at (a .before .before .before .before .before .before .pre .3) in
     omega arith
 
 write-requires : tie.Need-write-requires
 write-requires c κs =
     let a = c .before .before .before in
     let s = a .before .before .before .before .before .before in
-    let ends = rw (a .action3 .given .1) at (s .pre .1) in
-    front-ends _ _ _ _ (s .args .memory .now) (s .pre .0) ends
+    let ends = rw (a .action3 .given .1) at (s .pre .2 .ends) in
+    front-ends _ _ _ _ (s .args .memory .now) (s .pre .1) ends
 
 enum-known-action-4 : tie.Need-enum-known-action-4
 enum-known-action-4 c = search needs
@@ -86,15 +91,15 @@ part-put-start c = search needs
 part-put-end : tie.Need-part-put-end
 part-put-end c =
     let a = c .before .before in
-    let count = rw (a .action4 .given .1) at (a .before .before .before .before .before .before .pre .2) in
+    let count = rw (a .action4 .given .1) at (a .before .before .before .before .before .before .pre .3) in
     omega arith
 
 put-requires : tie.Need-put-requires
 put-requires c κs =
     let a = c .before .before .before in
     let s = a .before .before .before .before .before .before in
-    let ends = rw (a .action4 .given .1) at (s .pre .1) in
-    front-ends _ _ _ _ (s .args .memory .now) (s .pre .0) ends
+    let ends = rw (a .action4 .given .1) at (s .pre .2 .ends) in
+    front-ends _ _ _ _ (s .args .memory .now) (s .pre .1) ends
 
 enum-known-action-5 : tie.Need-enum-known-action-5
 enum-known-action-5 c = search needs
@@ -111,15 +116,15 @@ part-put-start-2 c = search needs
 part-put-end-2 : tie.Need-part-put-end-2
 part-put-end-2 c =
     let a = c .before .before in
-    let count = rw (a .action5 .given .1) at (a .before .before .before .before .before .before .pre .2) in
+    let count = rw (a .action5 .given .1) at (a .before .before .before .before .before .before .pre .3) in
     omega arith
 
 put-requires-2 : tie.Need-put-requires-2
 put-requires-2 c κs =
     let a = c .before .before .before in
     let s = a .before .before .before .before .before .before in
-    let ends = rw (a .action5 .given .1) at (s .pre .1) in
-    front-ends _ _ _ _ (s .args .memory .now) (s .pre .0) ends
+    let ends = rw (a .action5 .given .1) at (s .pre .2 .ends) in
+    front-ends _ _ _ _ (s .args .memory .now) (s .pre .1) ends
 
 same-length : tie.Need-same-length
 same-length c = search needs

@@ -1,9 +1,9 @@
--- `loader::write` meets its contract. Assumes nothing.
+-- `perform::write` meets its contract. Assumes nothing.
 use borrow.Author.Tests.{not-true, not-false}
 use mathlib.Core.Path.{sym, _∙_}
 use borrow.Author.Needs.{needs}
-use Rattle.loader.proofs.write.Statement.{statement}
-use Rattle.loader.proofs.write.Tie as tie
+use Rattle.perform.proofs.write.Statement.{statement}
+use Rattle.perform.proofs.write.Tie as tie
 
 is-blank-requires : tie.Need-is-blank-requires
 is-blank-requires c κs = search needs
