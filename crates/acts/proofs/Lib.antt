@@ -1,3 +1,5 @@
 pub mod Learning
-pub mod Loops
+pub mod Sureness
+pub mod Erasing
+pub mod Copying
 pub mod Opened

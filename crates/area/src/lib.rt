@@ -1,9 +1,10 @@
 // What each request does to the work area, that is, on every board at once.
 ghost use mathlib.Core.Path.{_≡_};
 ghost use mathlib.Core.Bool.{true, false};
-ghost use mathlib.Core.List.{List};
-ghost use Prim.Native.Nat.{ℕ, _*_, _<_};
+ghost use Prim.Native.Nat.{_*_, _<_};
 ghost use lib.ListN.{length, getD};
+ghost use Rattle.board.specs.Sound.{Sound};
+ghost use Rattle.protection.specs.Protection.{readProtected};
 ghost use Rattle.request.specs.Setup.{dataLength};
 ghost use Rattle.states.specs.WellFormed.{wellFormed};
 ghost use Rattle.command.specs.Command.{commandOf};
@@ -11,6 +12,7 @@ ghost use Rattle.decision.specs.Decide.{decideOf, isStatus};
 ghost use Rattle.hex.specs.Hex.{allDigits, bytesOf};
 ghost use Rattle.area.specs.Moved.{movedAs};
 ghost use Rattle.marks.specs.Area.{workBytes};
+ghost use Rattle.marks.specs.Work.{Work, workOf};
 ghost use Rattle.cells.specs.Cells.{reports, statusMoves, readsMoves, requestMoves};
 use access::Access;
 use board::Board;
@@ -46,23 +48,32 @@ fn going(device: Device) -> Step
     }
 }
 
+// Is reading and writing forbidden on every board?
+fn read_protected(board: Board, work: &[u8]) -> bool
+    requires { ⌜ length (now work) ≡ workBytes board ⌝ }
+    ensures { λ r. ⌜ r ≡ readProtected board (workOf board (now (work .entry)) .values) ⌝ }
+{
+    let values = marks::values_from(board);
+    protection::read_protected(board, &work[values..values + board.memory_bytes()])
+}
+
 // GETSTATUS: what is pending runs on every board.
 fn status(board: Board, device: Device, work: &mut [u8]) -> Step
-    requires { ⌜ (length (now work) ≡ workBytes (board .pages)) × (wellFormed (board .pages) device ≡ true) ⌝ }
-    ensures { λ r. ⌜ movedAs r (now (work .exit)) ≡ statusMoves (board .pages) device (now (work .entry)) ⌝ }
+    requires { ⌜ Sound board × (length (now work) ≡ workBytes board) × (wellFormed board device ≡ true) ⌝ }
+    ensures { λ r. ⌜ movedAs r (workOf board (now (work .exit))) ≡ statusMoves board device (workOf board (now (work .entry))) ⌝ }
 {
     let mode = device.mode;
     if mode.wire() != 3 {
         return report(device, device.nothing_ran());
     }
-    let protected = protection::read_protected(board, work);
+    let protected = read_protected(board, work);
     let action = action::intend(board, protected, device);
     let status = acts::act(board, action, work);
     report(device, action.ran(device.pointer, status))
 }
 
 fn report(device: Device, ran: Ran) -> Step
-    ensures { λ r. ⌜ ((w : List ℕ) → movedAs r w ≡ reports device ran w) ⌝ }
+    ensures { λ r. ⌜ ((w : Work) → movedAs r w ≡ reports device ran w) ⌝ }
 {
     let told = device.report(ran);
     if told.status != 0 {
@@ -73,9 +84,10 @@ fn report(device: Device, ran: Ran) -> Step
 
 // UPLOAD of memory: only whether the checks allow it can differ, and they do not look at flash or RAM.
 fn upload(board: Board, device: Device, setup: Setup, work: &[u8]) -> Step
-    ensures { λ r. ⌜ movedAs r (now (work .entry)) ≡ readsMoves (board .pages) device setup (now (work .entry)) ⌝ }
+    requires { ⌜ length (now work) ≡ workBytes board ⌝ }
+    ensures { λ r. ⌜ movedAs r (workOf board (now (work .entry))) ≡ readsMoves board device setup (workOf board (now (work .entry))) ⌝ }
 {
-    let protected = protection::read_protected(board, work);
+    let protected = read_protected(board, work);
     let count = setup.length;
     let access = access::examine_block(board, protected, setup.value, count, device.pointer);
     match access {
@@ -115,8 +127,8 @@ fn command(field: &[u8]) -> Command
 // A request on every board; `field` holds its data as digits. GETSTATUS is looked for first: it is the most frequent,
 // and has no data.
 pub fn request(board: Board, device: Device, setup: Setup, field: &[u8], work: &mut [u8]) -> Step
-    requires { ⌜ (length (now work) ≡ workBytes (board .pages)) × (wellFormed (board .pages) device ≡ true) × (length (now field) ≡ dataLength setup * 2) × (allDigits (now field) ≡ true) ⌝ }
-    ensures { λ r. ⌜ movedAs r (now (work .exit)) ≡ requestMoves (board .pages) device setup (bytesOf (now (field .entry))) (now (work .entry)) ⌝ }
+    requires { ⌜ Sound board × (length (now work) ≡ workBytes board) × (wellFormed board device ≡ true) × (length (now field) ≡ dataLength setup * 2) × (allDigits (now field) ≡ true) ⌝ }
+    ensures { λ r. ⌜ movedAs r (workOf board (now (work .exit))) ≡ requestMoves board device setup (bytesOf (now (field .entry))) (workOf board (now (work .entry))) ⌝ }
 {
     if decision::asks_status(device, setup) {
         return status(board, device, work);
@@ -126,8 +138,8 @@ pub fn request(board: Board, device: Device, setup: Setup, field: &[u8], work: &
 
 // A request that does not come to Status.
 fn decided(board: Board, device: Device, setup: Setup, field: &[u8], work: &mut [u8]) -> Step
-    requires { ⌜ (length (now work) ≡ workBytes (board .pages)) × (length (now field) ≡ dataLength setup * 2) × (allDigits (now field) ≡ true) × ((k : Command) → isStatus (decideOf device setup k) ≡ false) ⌝ }
-    ensures { λ r. ⌜ movedAs r (now (work .exit)) ≡ requestMoves (board .pages) device setup (bytesOf (now (field .entry))) (now (work .entry)) ⌝ }
+    requires { ⌜ (length (now work) ≡ workBytes board) × (length (now field) ≡ dataLength setup * 2) × (allDigits (now field) ≡ true) × ((k : Command) → isStatus (decideOf device setup k) ≡ false) ⌝ }
+    ensures { λ r. ⌜ movedAs r (workOf board (now (work .exit))) ≡ requestMoves board device setup (bytesOf (now (field .entry))) (workOf board (now (work .entry))) ⌝ }
 {
     let decision = decision::decide(device, setup, command(field));
     match decision {

@@ -2,10 +2,11 @@
 use mathlib.Core.Path.{_≡_, refl}
 use mathlib.Core.Bool.{true, true≢false}
 use mathlib.Core.List.{List}
-use Prim.Native.Nat.{ℕ, _≤_}
+use Prim.Native.Nat.{ℕ}
 use lib.Dec.{T, eqb}
 use lib.ListN.{drop}
 use Rattle.laws.proofs.Split.{by-bool}
+use Rattle.board.specs.Sound.{Sound}
 use Rattle.protection.specs.Protection.{readProtected, wordOf}
 use Rattle.request.specs.declared.Setup.{Setup}
 use Rattle.request.specs.Setup.{setupOf}
@@ -29,69 +30,71 @@ use Rattle.access.specs.Access.{blockAccess}
 use Rattle.action.specs.Action.{actionIn, actionOf, ranOf}
 use Rattle.action.proofs.Proper.{Proper, action-proper, went-well}
 use Rattle.line.specs.Event.{Event, attach, request}
+use Rattle.marks.specs.Work.{Work}
 use Rattle.cells.specs.Cells.{surely, workedOf, Moved, falls, goes, reports, statusMoves, readMoves, readsMoves, decisionMoves, requestMoves, moves}
+use Rattle.board.specs.declared.Board.{Board}
 
 -- where all boards go on, their device is well formed
-abbrev InForm : ℕ → Moved → Type 0
-InForm n falls = T true
-InForm n (goes d w) = Form n d
+abbrev InForm : Board → Moved → Type 0
+InForm board falls = T true
+InForm board (goes d w) = Form board d
 
-module _ (n pointer : ℕ) (w : List ℕ) (p : inRegion n pointer ≡ true) where
-  worked-sane : (action : Action) → Proper n action → Sane n (ranOf action pointer (workedOf n action w .status))
-  worked-sane Rest h = went-well n pointer Rest p
+module _ (board : Board) (pointer : ℕ) (w : Work) (p : inRegion board pointer ≡ true) where
+  worked-sane : (action : Action) → Proper board action → Sane board (ranOf action pointer (workedOf board action w .status))
+  worked-sane Rest h = went-well board pointer Rest p
   worked-sane (Fail status) h = record { well = λ e. p; ill = λ e. h }
-  worked-sane (Point address) h = went-well n pointer (Point address) h
-  worked-sane (Erase page) h = went-well n pointer (Erase page) p
-  worked-sane EraseAll h = went-well n pointer EraseAll p
-  worked-sane Unprotect h = went-well n pointer Unprotect p
-  worked-sane ClearRam h = went-well n pointer ClearRam p
+  worked-sane (Point address) h = went-well board pointer (Point address) h
+  worked-sane (Erase page) h = went-well board pointer (Erase page) p
+  worked-sane EraseAll h = went-well board pointer EraseAll p
+  worked-sane Unprotect h = went-well board pointer Unprotect p
+  worked-sane ClearRam h = went-well board pointer ClearRam p
   worked-sane (StoreFlash at count) h =
-      by-bool (surely n (wordOf n w) at count w) (λ e. rw e (went-well n pointer (StoreFlash at count) p))
+      by-bool (surely board (wordOf board (w .values)) at count w) (λ e. rw e (went-well board pointer (StoreFlash at count) p))
       (λ e. rw e (record { well = λ z. p; ill = λ z. refl }))
-  worked-sane (StoreRam at count) h = went-well n pointer (StoreRam at count) p
-  worked-sane (StoreOptions at count) h = went-well n pointer (StoreOptions at count) p
+  worked-sane (StoreRam at count) h = went-well board pointer (StoreRam at count) p
+  worked-sane (StoreOptions at count) h = went-well board pointer (StoreOptions at count) p
 
-module _ (n : ℕ) (d : Device) (f : Form n d) where
-  reports-in-form : (ran : Ran) (w : List ℕ) → Sane n ran → InForm n (reports d ran w)
+module _ (board : Board) (d : Device) (f : Form board d) where
+  reports-in-form : (ran : Ran) (w : Work) → Sane board ran → InForm board (reports d ran w)
   reports-in-form ran w s =
-      by-bool (eqb (reportOf d ran .status) 0) (λ e. rw e (after-status-form n d ran f s)) (λ e. rw e tt)
+      by-bool (eqb (reportOf d ran .status) 0) (λ e. rw e (after-status-form board d ran f s)) (λ e. rw e tt)
 
-  status-in-form : (w : List ℕ) → InForm n (statusMoves n d w)
+  status-in-form : (w : Work) → InForm board (statusMoves board d w)
   unfolding statusMoves actionOf
   status-in-form w =
-      let action = actionIn (d .pending) n (readProtected n w) (d .pointer) in
+      let action = actionIn (d .pending) board (readProtected board (w .values)) (d .pointer) in
       by-bool (isMode 3 (d .mode))
-      (λ e. rw e (reports-in-form (ranOf action (d .pointer) (workedOf n action w .status)) (workedOf n action w .work) (worked-sane n (d .pointer) w (f .pointer) action (action-proper n (readProtected n w) (d .pointer) (d .pending)))))
+      (λ e. rw e (reports-in-form (ranOf action (d .pointer) (workedOf board action w .status)) (workedOf board action w .work) (worked-sane board (d .pointer) w (f .pointer) action (action-proper board (readProtected board (w .values)) (d .pointer) (d .pending)))))
       (λ e. rw e (reports-in-form (nothingRan d) w (record { well = λ z. f .pointer; ill = λ z. absurd (true≢false z) })))
 
-  read-in-form : (access : Access) (w : List ℕ) → Calm (d .mode) → InForm n (readMoves access d w)
+  read-in-form : (access : Access) (w : Work) → Calm (d .mode) → InForm board (readMoves access d w)
   read-in-form (Denied status) w c = tt
-  read-in-form (InFlash at) w c = entered-form n d f UploadIdle c (record { sync = refl; error = refl })
-  read-in-form (InRam at) w c = entered-form n d f UploadIdle c (record { sync = refl; error = refl })
-  read-in-form (InOptions at) w c = entered-form n d f UploadIdle c (record { sync = refl; error = refl })
+  read-in-form (InFlash at) w c = entered-form board d f UploadIdle c (record { sync = refl; error = refl })
+  read-in-form (InRam at) w c = entered-form board d f UploadIdle c (record { sync = refl; error = refl })
+  read-in-form (InOptions at) w c = entered-form board d f UploadIdle c (record { sync = refl; error = refl })
 
-  decision-in-form : (decision : Decision) (s : Setup) (xs w : List ℕ) → Formed n d decision → InForm n (decisionMoves decision n d s xs w)
+  decision-in-form : (decision : Decision) (s : Setup) (xs : List ℕ) (w : Work) → Formed board d decision → InForm board (decisionMoves decision board d s xs w)
   unfolding readsMoves
   decision-in-form decided.Silent s xs w h = tt
   decision-in-form (decided.Stall next) s xs w h = tt
   decision-in-form (decided.Accept next) s xs w h = h
   decision-in-form (decided.Take next) s xs w h = h
   decision-in-form (decided.Commands next count) s xs w h = h
-  decision-in-form decided.Read s xs w h = read-in-form (blockAccess n (readProtected n w) (s .value) (s .length) (d .pointer)) w h
+  decision-in-form decided.Read s xs w h = read-in-form (blockAccess board (readProtected board (w .values)) (s .value) (s .length) (d .pointer)) w h
   decision-in-form decided.State s xs w h = f
   decision-in-form decided.Status s xs w h = status-in-form w
 
-  request-in-form : (s : Setup) (xs w : List ℕ) → InForm n (requestMoves n d s xs w)
+  request-in-form : (s : Setup) (xs : List ℕ) (w : Work) → InForm board (requestMoves board d s xs w)
   unfolding requestMoves
-  request-in-form s xs w = decision-in-form (decideOf d s (commandOf xs)) s xs w (decide-formed n d f s (commandOf xs))
+  request-in-form s xs w = decision-in-form (decideOf d s (commandOf xs)) s xs w (decide-formed board d f s (commandOf xs))
 
-  moves-in-form : (e : Event) (w : List ℕ) → 1 ≤ n → InForm n (moves n d w e)
+  moves-in-form : (e : Event) (w : Work) → Sound board → InForm board (moves board d w e)
   unfolding moves
-  moves-in-form attach w h = started-form n h
+  moves-in-form attach w h = started-form board h
   moves-in-form (request q) w h = request-in-form (setupOf q) (drop 8 q) w
 
-pub moves-form : (n : ℕ) (d : Device) (w : List ℕ) (e : Event) (d′ : Device) (w′ : List ℕ) → 1 ≤ n → Form n d → moves n d w e ≡ goes d′ w′ → Form n d′
-moves-form n d w e d′ w′ some f h = go (moves n d w e) h (moves-in-form n d f e w some)
+pub moves-form : (board : Board) (d : Device) (w : Work) (e : Event) (d′ : Device) (w′ : Work) → Sound board → Form board d → moves board d w e ≡ goes d′ w′ → Form board d′
+moves-form board d w e d′ w′ some f h = go (moves board d w e) h (moves-in-form board d f e w some)
   where
-    go : (v : Moved) → v ≡ goes d′ w′ → InForm n v → Form n d′
+    go : (v : Moved) → v ≡ goes d′ w′ → InForm board v → Form board d′
     go v i g = rw i at g

@@ -1,4 +1,5 @@
-pub mod Learnt
 pub mod Likeness
+pub mod Sure
 pub mod Actions
 pub mod InForm
+pub mod Deeds

@@ -2,11 +2,12 @@
 use mathlib.Core.Path.{_≡_, refl, ap₂}
 use mathlib.Core.Bool.{true, false≢true}
 use mathlib.Core.List.{List, [], _∷_, _++_}
-use Prim.Native.Nat.{ℕ, zero, suc, _<_}
+use Prim.Native.Nat.{ℕ, zero, suc, _+_, _<_}
 use native.Mathlib.Omega.{arith}
 use lib.Dec.{eqb, ltb}
-use lib.ListN.{take, drop, getD}
+use lib.ListN.{length, take, drop, getD}
 use borrow.Author.Tests.{lt-ltb, ltb-true, eqb-true, eq-eqb}
+use Rattle.laws.specs.Bytes.{put}
 use Rattle.laws.specs.Lists.{allBytes, same}
 use Rattle.laws.proofs.Split.{and-true}
 
@@ -63,3 +64,7 @@ same-eq (x ∷ xs) [] e = absurd (false≢true e)
 same-eq (x ∷ xs) (y ∷ ys) e =
     let p = and-true (eqb x y) (same xs ys) e in
     ap₂ _∷_ (eqb-true x y (p .0)) (same-eq xs ys (p .1))
+
+pub bytes-put : (at : ℕ) (xs m : List ℕ) → allBytes xs ≡ true → allBytes m ≡ true → allBytes (put at xs m) ≡ true
+unfolding put
+bytes-put at xs m x y = bytes-append (take at m ++ xs) (drop (at + length xs) m) (bytes-append (take at m) xs (bytes-take at m y) x) (bytes-drop (at + length xs) m y)

@@ -1,1 +1,3 @@
-pub mod Marks
+pub mod View
+pub mod Doors
+pub mod Known

@@ -1,2 +1,2 @@
 pub mod Area
-pub mod Marks
+pub mod Work

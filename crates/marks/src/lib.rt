@@ -1,52 +1,115 @@
-// The work area and its marks: a value and a mark for each byte of memory, then the block that waits to be written. A
-// mark says that every board is known to hold the value.
+// The work area: a value and a mark for each byte of memory, and the block that waits to be written. A mark says that
+// every board is known to hold the value. What a mark is, and where the three stand, is known here alone.
 ghost use mathlib.Core.Path.{_≡_};
 ghost use Prim.Native.Nat.{_+_, _-_, _≤_, _<_};
-ghost use lib.ListN.{length, drop, getD};
-ghost use Rattle.laws.specs.Lists.{allAre};
+ghost use lib.ListN.{length, getD};
+ghost use Rattle.laws.specs.Bytes.{put, filled};
 ghost use Rattle.board.specs.Layout.{memoryBytes};
 ghost use Rattle.marks.specs.Area.{workBytes};
-ghost use Rattle.marks.specs.Marks.{blockFrom, marked};
+ghost use Rattle.marks.specs.Work.{valuesFrom, marksFrom, blockFrom, workOf, known, valued, knowing, forgotten, allKnown, noneKnown};
 use board::Board;
 use request::Setup;
 
-// The work area's block, behind values and marks.
+// The mark of a byte that is known, and of one that is not.
+const KNOWN: u8 = 1;
+
+const UNKNOWN: u8 = 0;
+
+// Where the values stand in the work area.
+pub fn values_from(board: Board) -> usize
+    ensures { λ r. ⌜ r ≡ valuesFrom board ⌝ }
+{
+    0
+}
+
+fn marks_from(board: Board) -> usize
+    ensures { λ r. ⌜ r ≡ marksFrom board ⌝ }
+{
+    board.memory_bytes()
+}
+
+// Where the block stands.
 pub fn block_from(board: Board) -> usize
-    ensures { λ r. ⌜ r ≡ blockFrom (board .pages) ⌝ }
+    ensures { λ r. ⌜ r ≡ blockFrom board ⌝ }
 {
     board.memory_bytes() * 2
 }
 
 // How long a work area is.
 pub fn work_bytes(board: Board) -> usize
-    ensures { λ r. ⌜ r ≡ workBytes (board .pages) ⌝ }
+    ensures { λ r. ⌜ r ≡ workBytes board ⌝ }
 {
-    block_from(board) + Setup::TRANSFER as usize
+    board.memory_bytes() * 2 + Setup::TRANSFER as usize
 }
 
-// The marks of the bytes from place `from` up to place `to`: 1 where they are known, else 0.
-pub fn mark(board: Board, work: &mut [u8], from: usize, to: usize, known: u8)
-    requires { ⌜ (from ≤ to) × (to ≤ memoryBytes (board .pages)) × (length (now work) ≡ workBytes (board .pages)) ⌝ }
-    ensures { λ _. ⌜ now (work .exit) ≡ marked (board .pages) from (to - from) known (now (work .entry)) ⌝ }
+// The value of the byte at place i.
+pub fn value(board: Board, work: &[u8], i: usize) -> u8
+    requires { ⌜ (i < memoryBytes board) × (length (now work) ≡ workBytes board) ⌝ }
+    ensures { λ r. ⌜ r ≡ getD (workOf board (now (work .entry)) .values) i 0 ⌝ }
 {
-    let marks = board.memory_bytes();
-    buffer::fill(work, marks + from, marks + to, known);
+    let values = values_from(board);
+    work[values + i]
 }
 
-// The mark of the byte at place i.
-pub fn mark_of(board: Board, work: &[u8], i: usize) -> u8
-    requires { ⌜ (i < memoryBytes (board .pages)) × (length (now work) ≡ workBytes (board .pages)) ⌝ }
-    ensures { λ r. ⌜ r ≡ getD (now (work .entry)) (memoryBytes (board .pages) + i) 0 ⌝ }
+// The values from place `from` up to place `to` become this one.
+pub fn fill(board: Board, work: &mut [u8], from: usize, to: usize, value: u8)
+    requires { ⌜ (from ≤ to) × (to ≤ memoryBytes board) × (length (now work) ≡ workBytes board) ⌝ }
+    ensures { λ _. ⌜ workOf board (now (work .exit)) ≡ valued (filled from (to - from) value (workOf board (now (work .entry)) .values)) (workOf board (now (work .entry))) ⌝ }
 {
-    let marks = board.memory_bytes();
-    work[marks + i]
+    let values = values_from(board);
+    buffer::fill(work, values + from, values + to, value);
 }
 
-// Is each mark from place `from` up to place `to` this one?
-pub fn are_marked(board: Board, work: &[u8], from: usize, to: usize, known: u8) -> bool
-    requires { ⌜ (from ≤ to) × (to ≤ memoryBytes (board .pages)) × (length (now work) ≡ workBytes (board .pages)) ⌝ }
-    ensures { λ r. ⌜ r ≡ allAre known (to - from) (drop (memoryBytes (board .pages) + from) (now (work .entry))) ⌝ }
+// The bytes of `source` become the values from place `at` on.
+pub fn lay(board: Board, work: &mut [u8], at: usize, source: &[u8])
+    requires { ⌜ (at + length (now source) ≤ memoryBytes board) × (length (now work) ≡ workBytes board) ⌝ }
+    ensures { λ _. ⌜ workOf board (now (work .exit)) ≡ valued (put at (now (source .entry)) (workOf board (now (work .entry)) .values)) (workOf board (now (work .entry))) ⌝ }
 {
-    let marks = board.memory_bytes();
-    compare::all_are(work, marks + from, marks + to, known)
+    let values = values_from(board);
+    buffer::put(work, values + at, source);
+}
+
+// The bytes from place `from` up to place `to` become known.
+pub fn learn(board: Board, work: &mut [u8], from: usize, to: usize)
+    requires { ⌜ (from ≤ to) × (to ≤ memoryBytes board) × (length (now work) ≡ workBytes board) ⌝ }
+    ensures { λ _. ⌜ workOf board (now (work .exit)) ≡ knowing from (to - from) (workOf board (now (work .entry))) ⌝ }
+{
+    let marks = marks_from(board);
+    buffer::fill(work, marks + from, marks + to, KNOWN);
+}
+
+// No byte is known any more.
+pub fn forget(board: Board, work: &mut [u8])
+    requires { ⌜ length (now work) ≡ workBytes board ⌝ }
+    ensures { λ _. ⌜ workOf board (now (work .exit)) ≡ forgotten board (workOf board (now (work .entry))) ⌝ }
+{
+    let marks = marks_from(board);
+    buffer::fill(work, marks, marks + board.memory_bytes(), UNKNOWN);
+}
+
+// Is the byte at place i known?
+pub fn is_known(board: Board, work: &[u8], i: usize) -> bool
+    requires { ⌜ (i < memoryBytes board) × (length (now work) ≡ workBytes board) ⌝ }
+    ensures { λ r. ⌜ r ≡ known (workOf board (now (work .entry))) i ⌝ }
+{
+    let marks = marks_from(board);
+    work[marks + i] == KNOWN
+}
+
+// Is each byte from place `from` up to place `to` known?
+pub fn all_known(board: Board, work: &[u8], from: usize, to: usize) -> bool
+    requires { ⌜ (from ≤ to) × (to ≤ memoryBytes board) × (length (now work) ≡ workBytes board) ⌝ }
+    ensures { λ r. ⌜ r ≡ allKnown from (to - from) (workOf board (now (work .entry))) ⌝ }
+{
+    let marks = marks_from(board);
+    compare::all_are(work, marks + from, marks + to, KNOWN)
+}
+
+// Is none of them known?
+pub fn none_known(board: Board, work: &[u8], from: usize, to: usize) -> bool
+    requires { ⌜ (from ≤ to) × (to ≤ memoryBytes board) × (length (now work) ≡ workBytes board) ⌝ }
+    ensures { λ r. ⌜ r ≡ noneKnown from (to - from) (workOf board (now (work .entry))) ⌝ }
+{
+    let marks = marks_from(board);
+    compare::all_are(work, marks + from, marks + to, UNKNOWN)
 }

@@ -1,11 +1,12 @@
 -- `acts::act` meets its contract. Assumes nothing.
+use native.Mathlib.Omega.{arith}
 use mathlib.Core.Path.{_∙_}
 use borrow.Author.Needs.{needs}
 use Rattle.acts.proofs.act.Statement.{statement}
 use Rattle.acts.proofs.act.Tie as tie
 
-protection-word-requires : tie.Need-protection-word-requires
-protection-word-requires c κs = search needs
+word-of-requires : tie.Need-word-of-requires
+word-of-requires c κs = search needs
 
 enum-told : tie.Need-enum-told
 enum-told c = search needs
@@ -23,7 +24,8 @@ erase-requires : tie.Need-erase-requires
 erase-requires c κs =
     let a = c .before .before in
     let s = a .before .before .before .before .before in
-    (rw (a .action2 .given .1) at (s .pre .1), s .pre .0)
+    let h = rw (a .action2 .given .1) at (s .pre .2 .pages) in
+    (s .pre .0, s .pre .1, omega (arith, h))
 
 enum-told-3 : tie.Need-enum-told-3
 enum-told-3 c = search needs
@@ -53,7 +55,7 @@ write-requires : tie.Need-write-requires
 write-requires c κs =
     let a = c .before .before in
     let s = a .before .before .before .before .before in
-    (rw (a .action3 .given .1) at (s .pre .1), rw (a .action3 .given .1) at (s .pre .2), s .pre .0)
+    (s .pre .0, rw (a .action3 .given .1) at (s .pre .2 .ends), rw (a .action3 .given .1) at (s .pre .2 .count), s .pre .1)
 
 enum-known-action-4 : tie.Need-enum-known-action-4
 enum-known-action-4 c = search needs
@@ -65,7 +67,7 @@ keep-requires : tie.Need-keep-requires
 keep-requires c κs =
     let a = c .before .before in
     let s = a .before .before .before .before .before in
-    (rw (a .action4 .given .1) at (s .pre .1), rw (a .action4 .given .1) at (s .pre .2), s .pre .0)
+    (rw (a .action4 .given .1) at (s .pre .2 .ends), rw (a .action4 .given .1) at (s .pre .2 .count), s .pre .1)
 
 enum-known-action-5 : tie.Need-enum-known-action-5
 enum-known-action-5 c = search needs
@@ -77,7 +79,7 @@ keep-requires-2 : tie.Need-keep-requires-2
 keep-requires-2 c κs =
     let a = c .before .before in
     let s = a .before .before .before .before .before in
-    (rw (a .action5 .given .1) at (s .pre .1), rw (a .action5 .given .1) at (s .pre .2), s .pre .0)
+    (rw (a .action5 .given .1) at (s .pre .2 .ends), rw (a .action5 .given .1) at (s .pre .2 .count), s .pre .1)
 
 same-length : tie.Need-same-length
 same-length c = search needs
@@ -104,7 +106,7 @@ returns-4 : tie.Need-returns-4
 returns-4 c =
     let e = c .before .before in
     let a = e .before .before .before in
-    simp (e .erase .ensures, a .before .before .protection-word .ensures, a .action2 .given .1)
+    simp (e .erase .ensures, a .before .before .word-of .ensures, a .action2 .given .1)
 
 same-length-5 : tie.Need-same-length-5
 same-length-5 c = search needs
@@ -113,7 +115,7 @@ returns-5 : tie.Need-returns-5
 returns-5 c =
     let e = c .before .before in
     let a = e .before .before in
-    simp (e .erase-all .ensures, a .before .before .protection-word .ensures, a .enum-told3 .given .1)
+    simp (e .erase-all .ensures, a .before .before .word-of .ensures, a .enum-told3 .given .1)
 
 same-length-6 : tie.Need-same-length-6
 same-length-6 c = search needs
@@ -138,7 +140,7 @@ returns-8 : tie.Need-returns-8
 returns-8 c =
     let w = c .before .before in
     let a = w .before .before .before in
-    w .write .ensures ∙ simp (a .before .before .protection-word .ensures, a .action3 .given .1)
+    w .write .ensures ∙ simp (a .before .before .word-of .ensures, a .action3 .given .1)
 
 same-length-9 : tie.Need-same-length-9
 same-length-9 c = search needs
@@ -162,7 +164,7 @@ pub act-spec : {M : Type 1} → statement M
 act-spec =
     tie.close
     (tie.spec
-    protection-word-requires
+    word-of-requires
     enum-told
     enum-known-action
     enum-told-2

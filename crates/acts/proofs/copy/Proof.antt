@@ -1,37 +1,44 @@
 -- `acts::copy` meets its contract. Assumes nothing.
 use native.Mathlib.Omega.{arith}
-use Rattle.acts.proofs.Loops.{copy-turn, block-stays, copy-end}
-use lib.Seq.{sets}
-use lib.ListN.{length, take, drop, length-set}
-use native.Mathlib.Nat.{add-zero}
-use Prim.Native.Nat.{_+_, _-_, _≤_}
-use mathlib.Core.Path.{_≡_, refl, _∙_}
+use Rattle.acts.proofs.Copying.{Given, copying, copy-turn, copy-end}
+use Rattle.board.specs.declared.Board.{Board}
+use Rattle.marks.specs.Work.{Work, workOf}
+use Rattle.marks.proofs.View.{values-room, block-room}
+use lib.ListN.{length, take, length-set}
+use Prim.Native.Nat.{_-_}
+use mathlib.Core.Path.{_≡_, refl, ap, _∙_}
 use Rattle.acts.proofs.copy.Statement.{statement}
 use Rattle.acts.proofs.copy.Tie as tie
 
 abbrev Inv-loop : tie.InvT-loop
-Inv-loop work₀ at count block i₀ work i = (sets work (at + i) (drop i (take count (drop block work₀))) ≡ sets work₀ at (take count (drop block work₀))) × (drop block work ≡ drop block work₀) × (length work ≡ length work₀)
+Inv-loop work₀ at count values block i₀ work i = ((board : Board) → Given board work₀ at count values block → copying at i (take count (workOf board work₀ .block)) (workOf board work) ≡ copying at 0 (take count (workOf board work₀ .block)) (workOf board work₀)) × (length work ≡ length work₀)
 
 abbrev μ-loop : tie.MeasureT-loop
-μ-loop work₀ at count block i₀ work i = count - i
+μ-loop work₀ at count values block i₀ work i = count - i
+
+values-from-requires : tie.Need-values-from-requires Inv-loop μ-loop
+values-from-requires c κs = tt
 
 block-from-requires : tie.Need-block-from-requires Inv-loop μ-loop
-block-from-requires c κs = omega arith
+block-from-requires c κs = tt
 
 loop-holds : tie.Need-loop-holds Inv-loop μ-loop
-loop-holds c = (rw add-zero, refl, refl)
+loop-holds c = (λ board g. refl, refl)
 
 add-work : tie.Need-add-work Inv-loop μ-loop
-add-work c = omega arith
+add-work c = let s = c .before .before .before .before .before in omega (arith, block-room (s .args .board) (s .args .work .now) (s .pre .2))
 
 slice-read-work : tie.Need-slice-read-work Inv-loop μ-loop
-slice-read-work c = omega arith
+slice-read-work c = let s = c .before .before .before .before .before .before in omega (arith, block-room (s .args .board) (s .args .work .now) (s .pre .2))
 
 add-work-2 : tie.Need-add-work-2 Inv-loop μ-loop
 add-work-2 c = omega arith
 
+add-work-3 : tie.Need-add-work-3 Inv-loop μ-loop
+add-work-3 c = let s = c .before .before .before .before .before .before in omega (arith, values-room (s .args .board) (s .args .work .now) (s .pre .2))
+
 slice-write-work : tie.Need-slice-write-work Inv-loop μ-loop
-slice-write-work c = omega arith
+slice-write-work c = let s = c .before .before .before .before .before .before in omega (arith, values-room (s .args .board) (s .args .work .now) (s .pre .2))
 
 add-i : tie.Need-add-i Inv-loop μ-loop
 add-i c = omega arith
@@ -42,23 +49,17 @@ loop-less c = omega arith
 loop-again : tie.Need-loop-again Inv-loop μ-loop
 loop-again c =
     let l = c .before .before in
-    let b = l .before in
-    let s = b .before .before in
-    let more = c .before .loop-test .taken in
-    let apart : s .args .at + s .args .count ≤ b .block-from .result = omega arith in
-    let room : b .block-from .result + s .args .count ≤ length (s .args .work .now) = omega arith in
-    (copy-turn _ _ _ _ _ _ more apart room (l .loop .inv .1) ∙ l .loop .inv .0, block-stays _ _ _ _ _ _ more apart room (l .loop .inv .1) _, simp length-set (l .loop .inv .2))
+    (λ board g. copy-turn board _ _ _ _ _ _ _ _ g (l .loop .inv .1) (c .before .loop-test .taken) (ap (λ (w : Work). w .block) (l .loop .inv .0 board g)) refl ∙ l .loop .inv .0 board g, simp length-set (l .loop .inv .1))
 
 same-length : tie.Need-same-length Inv-loop μ-loop
-same-length c = c .before .loop .inv .2
+same-length c = c .before .loop .inv .1
 
 returns : tie.Need-returns Inv-loop μ-loop
 returns c =
     let b = c .before .before in
-    let s = b .before .before in
-    let room : b .block-from .result + s .args .count ≤ length (s .args .work .now) = omega arith in
-    let inside : s .args .at + s .args .count ≤ length (s .args .work .now) = omega arith in
-    copy-end _ _ _ _ _ _ _ (b .block-from .ensures) (c .loop-test .left) room inside (c .before .loop .inv .0)
+    let s = b .before .before .before in
+    let g : Given (s .args .board) (s .args .work .now) (s .args .at) (s .args .count) (b .before .values-from .result) (b .block-from .result) = record { size = s .pre .2; room = s .pre .0; short = s .pre .1; values-there = b .before .values-from .ensures; block-there = b .block-from .ensures } in
+    copy-end _ _ _ _ _ _ _ _ g (c .loop-test .left) (c .before .loop .inv .0 _ g)
 
 pub copy-spec : {M : Type 1} → statement M
 copy-spec =
@@ -66,11 +67,13 @@ copy-spec =
     (tie.spec
     Inv-loop
     μ-loop
+    values-from-requires
     block-from-requires
     loop-holds
     add-work
     slice-read-work
     add-work-2
+    add-work-3
     slice-write-work
     add-i
     loop-less

@@ -1,12 +1,13 @@
 -- `acts::erase_all` meets its contract. Assumes nothing.
 use Rattle.acts.proofs.Opened.{flash-erased}
+use Rattle.marks.proofs.View.{work-sized}
 use mathlib.Core.Path.{_∙_, sym}
 use borrow.Author.Needs.{needs}
 use Rattle.acts.proofs.erase_all.Statement.{statement}
 use Rattle.acts.proofs.erase_all.Tie as tie
 
-cast-any-protected : tie.Need-cast-any-protected
-cast-any-protected c = search needs
+flash-pages-requires : tie.Need-flash-pages-requires
+flash-pages-requires c κs = search needs
 
 any-protected-requires : tie.Need-any-protected-requires
 any-protected-requires c κs = search needs
@@ -29,13 +30,15 @@ same-length-2 c = search needs
 returns-2 : tie.Need-returns-2
 returns-2 c =
     let t = c .before .before .before .before in
-    c .before .before .erase-flash .ensures ∙ flash-erased _ _ _ (t .before .before .before .before .pre) (sym (t .before .any-protected .ensures) ∙ t .if1 .left)
+    let f = t .before .before in
+    let s = f .before .before in
+    c .before .before .erase-flash .ensures ∙ flash-erased _ (s .pre .0) _ _ (work-sized _ _ (s .pre .1)) (rw (f .flash-pages .ensures) at (sym (t .before .any-protected .ensures) ∙ t .if1 .left))
 
 pub erase-all-spec : {M : Type 1} → statement M
 erase-all-spec =
     tie.close
     (tie.spec
-    cast-any-protected
+    flash-pages-requires
     any-protected-requires
     erase-pages-requires
     same-length

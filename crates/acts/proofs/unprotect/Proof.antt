@@ -1,48 +1,28 @@
 -- `acts::unprotect` meets its contract. Assumes nothing.
-use mathlib.Core.List.{[]}
-use Rattle.acts.proofs.Learning.{whole-is, front-back}
-use Rattle.cells.proofs.Actions.{unprotected-length}
+use Rattle.acts.proofs.Learning.{unprotect-learnt}
 use borrow.Author.Needs.{needs}
 use Rattle.acts.proofs.unprotect.Statement.{statement}
 use Rattle.acts.proofs.unprotect.Tie as tie
 
-memory-bytes-requires : tie.Need-memory-bytes-requires
-memory-bytes-requires c κs = search needs
+erase-flash-requires : tie.Need-erase-flash-requires
+erase-flash-requires c κs = search needs
 
-sub-unprotect : tie.Need-sub-unprotect
-sub-unprotect c = search needs
+clear-ram-requires : tie.Need-clear-ram-requires
+clear-ram-requires c κs = search needs
 
-part-unprotect-start : tie.Need-part-unprotect-start
-part-unprotect-start c = search needs
-
-part-unprotect-end : tie.Need-part-unprotect-end
-part-unprotect-end c = search needs
-
-unprotect-requires : tie.Need-unprotect-requires
-unprotect-requires c κs = search needs
-
-mark-requires : tie.Need-mark-requires
-mark-requires c κs = search needs
+reset-options-requires : tie.Need-reset-options-requires
+reset-options-requires c κs = search needs
 
 same-length : tie.Need-same-length
 same-length c = search needs
 
 returns : tie.Need-returns
 returns c =
-    let u = c .before .before .before .before .before .before in
-    let s = u .before .before .before .before in
-    let n = s .args .board .pages in
-    whole-is n _ _ _ _ (u .before .before .memory-bytes .ensures) (unprotected-length n []) (front-back n _ _ (s .args .work .now) (u .before .before .memory-bytes .ensures) (unprotected-length n []) (u .unprotect .ensures)) (c .before .before .mark .ensures)
+    let o = c .before .before in
+    let r = o .before .before .before .before in
+    unprotect-learnt _ _ _ _ _ (r .before .before .before .before .erase-flash .ensures) (r .clear-ram .ensures) (o .reset-options .ensures)
 
 pub unprotect-spec : {M : Type 1} → statement M
 unprotect-spec =
     tie.close
-    (tie.spec
-    memory-bytes-requires
-    sub-unprotect
-    part-unprotect-start
-    part-unprotect-end
-    unprotect-requires
-    mark-requires
-    same-length
-    returns)
+    (tie.spec erase-flash-requires clear-ram-requires reset-options-requires same-length returns)

@@ -1,6 +1,7 @@
 -- `acts::write` meets its contract. Assumes nothing.
 use Rattle.acts.proofs.Learning.{writes-stale, writes-unknown, writes-sure}
-use Rattle.acts.proofs.Opened.{blank-there, known-there, stored-there}
+use Rattle.acts.proofs.Opened.{blank-there, sure-there, stored-there}
+use Rattle.marks.proofs.View.{work-sized}
 use borrow.Author.Tests.{not-true, not-false}
 use mathlib.Core.Path.{_∙_, sym}
 use borrow.Author.Needs.{needs}
@@ -22,8 +23,8 @@ same-length c = search needs
 returns : tie.Need-returns
 returns c = search needs
 
-all-are-requires : tie.Need-all-are-requires
-all-are-requires c κs = search needs
+is-erased-requires : tie.Need-is-erased-requires
+is-erased-requires c κs = search needs
 
 same-length-2 : tie.Need-same-length-2
 same-length-2 c = search needs
@@ -31,12 +32,12 @@ same-length-2 c = search needs
 returns-2 : tie.Need-returns-2
 returns-2 c =
     let i = c .before .before .before in
-    let l = i .before .before .before .pre .2 in
+    let p = i .before .before .before .pre in
     let o = sym (i .before .is-open .ensures) ∙ not-false _ (i .if1 .left) in
-    writes-stale _ _ _ _ _ (sym (blank-there _ _ _ _ _ l o _ (c .before .all-are .ensures)) ∙ not-true _ (c .if2 .taken))
+    writes-stale _ _ _ _ _ (sym (blank-there _ _ _ _ _ (p .0) (work-sized _ _ (p .3)) (p .1) o _ (c .before .is-erased .ensures)) ∙ not-true _ (c .if2 .taken))
 
-are-marked-requires : tie.Need-are-marked-requires
-are-marked-requires c κs = search needs
+all-known-requires : tie.Need-all-known-requires
+all-known-requires c κs = search needs
 
 same-length-3 : tie.Need-same-length-3
 same-length-3 c = search needs
@@ -45,10 +46,11 @@ returns-3 : tie.Need-returns-3
 returns-3 c =
     let d = c .before .before .before in
     let i = d .before .before .before in
-    let l = i .before .before .before .pre .2 in
+    let p = i .before .before .before .pre in
+    let s = work-sized _ _ (p .3) in
     let o = sym (i .before .is-open .ensures) ∙ not-false _ (i .if1 .left) in
-    let b = sym (blank-there _ _ _ _ _ l o _ (d .before .all-are .ensures)) ∙ not-false _ (d .if2 .left) in
-    writes-unknown _ _ _ _ _ b (sym (known-there _ _ _ _ _ l o _ (c .before .are-marked .ensures)) ∙ not-true _ (c .if3 .taken))
+    let b = sym (blank-there _ _ _ _ _ (p .0) s (p .1) o _ (d .before .is-erased .ensures)) ∙ not-false _ (d .if2 .left) in
+    writes-unknown _ _ _ _ _ b (sym (sure-there _ _ _ _ _ (p .0) s (p .1) o _ (c .before .all-known .ensures)) ∙ not-true _ (c .if3 .taken))
 
 copy-requires : tie.Need-copy-requires
 copy-requires c κs = search needs
@@ -62,10 +64,11 @@ returns-4 c =
     let d = e .before .before .before in
     let i = d .before .before .before in
     let p = i .before .before .before .pre in
+    let s = work-sized _ _ (p .3) in
     let o = sym (i .before .is-open .ensures) ∙ not-false _ (i .if1 .left) in
-    let b = sym (blank-there _ _ _ _ _ (p .2) o _ (d .before .all-are .ensures)) ∙ not-false _ (d .if2 .left) in
-    let k = sym (known-there _ _ _ _ _ (p .2) o _ (e .before .are-marked .ensures)) ∙ not-false _ (e .if3 .left) in
-    writes-sure _ _ _ _ _ _ b k (stored-there _ _ _ _ _ (p .2) o _ (p .1) (c .before .before .copy .ensures))
+    let b = sym (blank-there _ _ _ _ _ (p .0) s (p .1) o _ (d .before .is-erased .ensures)) ∙ not-false _ (d .if2 .left) in
+    let k = sym (sure-there _ _ _ _ _ (p .0) s (p .1) o _ (e .before .all-known .ensures)) ∙ not-false _ (e .if3 .left) in
+    writes-sure _ _ _ _ _ _ b k (stored-there _ _ _ _ _ (p .0) s (p .1) o _ (p .2) (c .before .before .copy .ensures))
 
 pub write-spec : {M : Type 1} → statement M
 write-spec =
@@ -76,10 +79,10 @@ write-spec =
     write-sparing-requires
     same-length
     returns
-    all-are-requires
+    is-erased-requires
     same-length-2
     returns-2
-    are-marked-requires
+    all-known-requires
     same-length-3
     returns-3
     copy-requires

@@ -15,8 +15,8 @@ same-length c = search needs
 returns : tie.Need-returns
 returns c = writes-stale _ _ _ _ _ (sym (c .before .is-blank .ensures) ∙ not-true _ (c .if1 .taken))
 
-is-known-requires : tie.Need-is-known-requires
-is-known-requires c κs = search needs
+is-sure-requires : tie.Need-is-sure-requires
+is-sure-requires c κs = search needs
 
 same-length-2 : tie.Need-same-length-2
 same-length-2 c = search needs
@@ -24,7 +24,7 @@ same-length-2 c = search needs
 returns-2 : tie.Need-returns-2
 returns-2 c =
     let b = c .before .before .before in
-    writes-unknown _ _ _ _ _ (sym (b .before .is-blank .ensures) ∙ not-false _ (b .if1 .left)) (sym (c .before .is-known .ensures) ∙ not-true _ (c .if2 .taken))
+    writes-unknown _ _ _ _ _ (sym (b .before .is-blank .ensures) ∙ not-false _ (b .if1 .left)) (sym (c .before .is-sure .ensures) ∙ not-true _ (c .if2 .taken))
 
 store-requires : tie.Need-store-requires
 store-requires c κs = search needs
@@ -36,7 +36,7 @@ returns-3 : tie.Need-returns-3
 returns-3 c =
     let k = c .before .before .before .before in
     let b = k .before .before .before in
-    writes-sure _ _ _ _ _ _ (sym (b .before .is-blank .ensures) ∙ not-false _ (b .if1 .left)) (sym (k .before .is-known .ensures) ∙ not-false _ (k .if2 .left)) (c .before .before .store .ensures)
+    writes-sure _ _ _ _ _ _ (sym (b .before .is-blank .ensures) ∙ not-false _ (b .if1 .left)) (sym (k .before .is-sure .ensures) ∙ not-false _ (k .if2 .left)) (c .before .before .store .ensures)
 
 pub write-sparing-spec : {M : Type 1} → statement M
 write-sparing-spec =
@@ -45,7 +45,7 @@ write-sparing-spec =
     is-blank-requires
     same-length
     returns
-    is-known-requires
+    is-sure-requires
     same-length-2
     returns-2
     store-requires

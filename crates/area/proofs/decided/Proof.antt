@@ -1,7 +1,11 @@
 -- `area::decided` meets its contract. Assumes nothing.
-use Rattle.area.proofs.Answers.{request-moves}
+use Rattle.area.proofs.Answers.{request-moves, block-taken}
 use Rattle.decision.proofs.Bounds.{decided-bounded}
 use Rattle.request.proofs.Lengths.{data-at-most}
+use Rattle.request.specs.Request.{transferBytes}
+use Rattle.marks.proofs.View.{block-room}
+use lib.ListN.{length}
+use Prim.Native.Nat.{_/_, _≤_}
 use native.Mathlib.Omega.{arith}
 use mathlib.Core.Path.{ap, _∙_, sym}
 use mathlib.Core.Bool.{true≢false}
@@ -46,7 +50,7 @@ decode-requires c κs =
     let d = t .before .before in
     let s = d .before .before .before .before in
     let short = decided-bounded _ _ _ _ _ (d .decide .ensures) (t .decision2 .given .1) in
-    (omega (arith, c .block-from .ensures, s .pre .0, s .pre .1, short, data-at-most (s .args .setup)), s .pre .2)
+    (omega (arith, c .block-from .ensures, block-room (s .args .board) (s .args .work .now) (s .pre .0), s .pre .1, short, data-at-most (s .args .setup)), s .pre .2)
 
 going-requires-2 : tie.Need-going-requires-2
 going-requires-2 c κs = search needs
@@ -98,7 +102,10 @@ returns-4 c =
     let p = c .before .before .before in
     let t = p .before .before .before .before in
     let d = t .before .before in
-    rw (c .going2 .ensures, p .decode .ensures, p .before .block-from .ensures) (request-moves _ _ _ _ _ _ _ _ (d .before .command .ensures) (d .decide .ensures) (t .decision2 .given .1))
+    let s = d .before .before .before .before in
+    let short = decided-bounded _ _ _ _ _ (d .decide .ensures) (t .decision2 .given .1) in
+    let fits : length (s .args .field .now) / 2 ≤ transferBytes = omega (arith, s .pre .1, short, data-at-most (s .args .setup)) in
+    rw (c .going2 .ensures, block-taken _ _ _ _ _ (s .pre .0) (p .before .block-from .ensures) fits (p .decode .ensures)) (request-moves _ _ _ _ _ _ _ _ (d .before .command .ensures) (d .decide .ensures) (t .decision2 .given .1))
 
 returns-5 : tie.Need-returns-5
 returns-5 c =

@@ -25,7 +25,7 @@ decided-requires : tie.Need-decided-requires
 decided-requires c κs =
     let a = c .before .before in
     let s = a .before .before .before in
-    (s .pre .0, s .pre .2, s .pre .3, λ k. sym (a .asks-status .ensures k) ∙ c .before .if1 .left)
+    (s .pre .1, s .pre .3, s .pre .4, λ k. sym (a .asks-status .ensures k) ∙ c .before .if1 .left)
 
 same-length-2 : tie.Need-same-length-2
 same-length-2 c = search needs

@@ -30,8 +30,8 @@ act-requires : tie.Need-act-requires
 act-requires c κs =
     let i = c .before in
     let s = i .before .before .before .before .before .before in
-    let f = action-fits _ (i .before .read-protected .result) (s .args .device) (s .pre .1) in
-    rw (i .intend .ensures) (s .pre .0, f .ends, f .count)
+    let f = action-fits _ (s .pre .0) (i .before .read-protected .result) (s .args .device) (s .pre .2) in
+    rw (i .intend .ensures) (s .pre .0, s .pre .1, f)
 
 ran-requires : tie.Need-ran-requires
 ran-requires c κs = search needs
