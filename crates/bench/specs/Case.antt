@@ -3,7 +3,8 @@ use mathlib.Core.List.{List, [], _∷_, _++_, map}
 use Prim.Native.Nat.{ℕ}
 use lib.ListN.{take, getD, replicate}
 use Rattle.laws.specs.Bytes.{put, filled}
-use Rattle.board.specs.Layout.{loggerPages}
+use Rattle.board.specs.Layout.{logger, flashPages, pageBytes, pageOffset, flashBytes, flashFirst, flashFrom, ramFirst, ramBytes, ramFrom, optionsFirst, optionsFrom, memoryBytes, pageAt}
+use Rattle.board.specs.Memory.{optionsOf}
 use Rattle.board.specs.Span.{spans, placeOf}
 use Rattle.protection.specs.Protection.{lockedFrom, wordFrom, readProtected, wordOf, writeProtected}
 use Rattle.request.specs.Request.{transferBytes, outwardOf, inwardOf, requestOf}
@@ -26,6 +27,7 @@ use Rattle.line.specs.Event.{Event}
 use Rattle.verdict.specs.declared.Verdict.{Verdict}
 use Rattle.demand.specs.Verdict.{endFails}
 use Rattle.marks.specs.Area.{workBytes}
+use Rattle.marks.specs.Work.{workOf}
 use Rattle.judgement.specs.Judgement.{overOf, lowestFrom, endNumber, endVerdict, verdictOf}
 
 -- compute the address of a block, by wValue and pointer; make requests of a board with this memory; check a job, for an image and a card
@@ -42,12 +44,12 @@ pub data Finding : Type 0 where
 
 -- a board with the memory m, just attached: in mode 2, its pointer at 0x08000000
 abbrev pub attached : List ℕ → Outcome
-attached m = stepOf loggerPages started event.Attach [] m (replicate transferBytes 0x11) (replicate transferBytes 0x22)
+attached m = stepOf logger (started logger) event.Attach [] m (replicate transferBytes 0x11) (replicate transferBytes 0x22)
 
 -- requests, one after the other
 abbrev pub asked : List (List ℕ) → Outcome → Outcome
 asked [] o = o
-asked (q ∷ qs) o = asked qs (stepOf loggerPages (o .device) event.Request q (o .memory) (o .block) (o .reply))
+asked (q ∷ qs) o = asked qs (stepOf logger (o .device) event.Request q (o .memory) (o .block) (o .reply))
 
 -- what there is to see of an outcome
 abbrev pub stateOf : Outcome → Finding
@@ -55,10 +57,10 @@ stateOf o = state (o .answer ++ take (getD (o .answer) 1 0) (o .reply)) (o .devi
 
 -- what a deed comes to: by the promises' own definitions, and by `verdictOf`, which the law `judged` ties to the promised verdict
 unfoldable pub found : Deed → Finding
-unfolding put filled spans placeOf lockedFrom wordFrom readProtected wordOf writeProtected outwardOf inwardOf requestOf setupOf dataLength fitsOf allowedOf afterStatus reportOf inRegion wellFormed commandOf commandedOf downloadOf uploadOf decideOf blockAddress accessOf blockAccess actionOf each blank laid stored erased runOf statusOf uploadedOf serveOf firstOf admittedOf stepOf overOf endFails lowestFrom endNumber endVerdict verdictOf
+unfolding put filled flashPages pageBytes pageOffset flashBytes flashFirst flashFrom ramFirst ramBytes ramFrom optionsFirst optionsFrom memoryBytes pageAt optionsOf spans placeOf lockedFrom wordFrom readProtected wordOf writeProtected outwardOf inwardOf requestOf setupOf dataLength fitsOf allowedOf afterStatus reportOf inRegion wellFormed commandOf commandedOf downloadOf uploadOf decideOf blockAddress accessOf blockAccess actionOf each blank laid stored erased runOf statusOf uploadedOf serveOf firstOf admittedOf stepOf overOf endFails lowestFrom endNumber endVerdict verdictOf
 found (locate value pointer) = address (blockAddress transferBytes value pointer)
 found (ask qs m) = stateOf (asked qs (attached m))
-found (check es image card) = judgement (verdictOf loggerPages es image card (replicate (workBytes loggerPages) 0))
+found (check es image card) = judgement (verdictOf logger es image card (workOf logger (replicate (workBytes logger) 0)))
 
 -- a deed, and what is to be found then
 pub record Check : Type 0 where

@@ -2,8 +2,10 @@
 use mathlib.Core.Path.{_≡_, refl, ap, _∙_, sym}
 use mathlib.Core.Bool.{true}
 use mathlib.Core.List.{List, [], _∷_}
-use Prim.Native.Nat.{ℕ, _≤_}
+use Prim.Native.Nat.{ℕ}
 use lib.ListN.{length}
+use Rattle.board.specs.declared.Board.{Board}
+use Rattle.board.specs.Sound.{Sound}
 use Rattle.refusal.specs.declared.Refusal.{Refusal}
 use Rattle.device.specs.declared.Device.{Device}
 use Rattle.device.specs.State.{started}
@@ -18,6 +20,8 @@ use Rattle.verdict.specs.declared.Verdict.the-variants as verdict
 use Rattle.verdict.specs.Report.{inFields}
 use Rattle.demand.specs.Checked.{checkable, Checked}
 use Rattle.demand.proofs.Supply.{Checkable, checkable-parts}
+use Rattle.marks.specs.Work.{Work, workOf}
+use Rattle.marks.proofs.View.{work-sized}
 use Rattle.judgement.specs.Judgement.{overOf, endVerdict, overVerdict, begun, verdictOf}
 use Rattle.judgement.proofs.Events.{Fitting}
 use Rattle.judgement.proofs.Runs.{AllFit}
@@ -27,17 +31,17 @@ use Rattle.checker.specs.declared.Outcome.the-variants as outcome
 use Rattle.checker.specs.Walk.{overAs}
 
 -- a run's outcome r with the work area w₂, from the work area w₁ that begins with the card
-module _ (n : ℕ) (es : List Event) (image card w w₁ w₂ : List ℕ) (r : Outcome) (start : w₁ ≡ begun n card w) (ran : overAs r w₂ ≡ overOf n es started w₁ 0) where
-  over-is : overOf n es started (begun n card w) 0 ≡ overAs r w₂
-  over-is = ap (λ (x : List ℕ). overOf n es started x 0) (sym start) ∙ sym ran
+module _ (board : Board) (es : List Event) (image card : List ℕ) (w w₁ w₂ : Work) (r : Outcome) (start : w₁ ≡ begun board card w) (ran : overAs r w₂ ≡ overOf board es (started board) w₁ 0) where
+  over-is : overOf board es (started board) (begun board card w) 0 ≡ overAs r w₂
+  over-is = ap (λ (x : Work). overOf board es (started board) x 0) (sym start) ∙ sym ran
 
-  pub judged-fell : (k : ℕ) → r ≡ outcome.Fell k → verdict.Event k ≡ verdictOf n es image card w
+  pub judged-fell : (k : ℕ) → r ≡ outcome.Fell k → verdict.Event k ≡ verdictOf board es image card w
   unfolding verdictOf
-  judged-fell k is = sym (ap (overVerdict n image card) (over-is ∙ ap (λ (x : Outcome). overAs x w₂) is))
+  judged-fell k is = sym (ap (overVerdict board image card) (over-is ∙ ap (λ (x : Outcome). overAs x w₂) is))
 
-  pub judged-ended : (d : Device) (v : Verdict) → r ≡ outcome.Ended d → v ≡ endVerdict n image card d w₂ → v ≡ verdictOf n es image card w
+  pub judged-ended : (d : Device) (v : Verdict) → r ≡ outcome.Ended d → v ≡ endVerdict board image card d w₂ → v ≡ verdictOf board es image card w
   unfolding verdictOf
-  judged-ended d v is so = so ∙ sym (ap (overVerdict n image card) (over-is ∙ ap (λ (x : Outcome). overAs x w₂) is))
+  judged-ended d v is so = so ∙ sym (ap (overVerdict board image card) (over-is ∙ ap (λ (x : Outcome). overAs x w₂) is))
 
 event-fits : (e : Event) → fits e ≡ true → Fitting e
 unfolding fits
@@ -49,14 +53,14 @@ proper-fits [] h = tt
 proper-fits (e ∷ es) h = let p = proper-parts e es h in (event-fits e (p .0), proper-fits es (p .2))
 
 -- what an admission a of the call comes to
-module _ (n : ℕ) (t image card w : List ℕ) (a : Admission) (is : a ≡ checkable n t (length image) (length card) (length w)) where
-  pub checked-refused : (why : Refusal) (w′ : List ℕ) → a ≡ admission.Refused why → w′ ≡ w → Checked n t image card w (inFields (verdict.Refused why)) w′
+module _ (board : Board) (t image card w : List ℕ) (a : Admission) (is : a ≡ checkable board t (length image) (length card) (length w)) where
+  pub checked-refused : (why : Refusal) (w′ : List ℕ) → a ≡ admission.Refused why → w′ ≡ w → Checked board t image card w (inFields (verdict.Refused why)) w′
   checked-refused why w′ so kept = rw (sym is ∙ so) (refl, kept)
 
-  pub checked-parts : a ≡ admission.Admitted → Checkable n t (length image) (length card) (length w)
-  checked-parts so = checkable-parts n t (length image) (length card) (length w) (sym is ∙ so)
+  pub checked-parts : a ≡ admission.Admitted → Checkable board t (length image) (length card) (length w)
+  checked-parts so = checkable-parts board t (length image) (length card) (length w) (sym is ∙ so)
 
-  pub checked-judged : (v : Verdict) (w′ : List ℕ) → a ≡ admission.Admitted → 1 ≤ n → allBytes card ≡ true → v ≡ verdictOf n (eventsOf t) image card w → Checked n t image card w (inFields v) w′
-  checked-judged v w′ so some bytes j =
+  pub checked-judged : (v : Verdict) (w′ : List ℕ) → a ≡ admission.Admitted → Sound board → allBytes card ≡ true → v ≡ verdictOf board (eventsOf t) image card (workOf board w) → Checked board t image card w (inFields v) w′
+  checked-judged v w′ so sound bytes j =
       let c = checked-parts so in
-      rw (sym is ∙ so) (v, refl, rw j (judged n (eventsOf t) image card w some (c .area) (c .supply .options) bytes (proper-fits (eventsOf t) (good-proper t (c .clean)))))
+      rw (sym is ∙ so) (v, refl, rw j (judged board (eventsOf t) image card (workOf board w) sound (work-sized board w (c .area)) (c .supply .options) bytes (proper-fits (eventsOf t) (good-proper t (c .clean)))))

@@ -8,11 +8,14 @@ use native.Mathlib.Numerals.{add-one}
 use lib.Dec.{eqb, ltb}
 use lib.ListN.{length, take, drop, getD}
 use borrow.Author.Tests.{lt-ltb, le-ltb}
-use Rattle.board.specs.Layout.{flashBytes, memoryBytes, optionsFrom, optionBytes}
+use Rattle.board.specs.declared.Board.{Board}
+use Rattle.board.specs.Layout.{flashBytes, flashFrom, optionsFrom, optionBytes}
+use Rattle.board.specs.Memory.{optionsOf}
 use Rattle.device.specs.declared.Device.{Device}
 use Rattle.laws.specs.Lists.{same}
 use Rattle.verdict.specs.declared.Verdict.the-variants as verdict
 use Rattle.demand.specs.Verdict.{pagesEnd}
+use Rattle.marks.specs.Work.{Work, known}
 use Rattle.judgement.specs.Judgement.{suspect, lowestFrom, flashVerdict, endNumber, endOr, endVerdict}
 
 pub lowest-found : (test : ℕ → Bool) (i e : ℕ) → i < e → test i ≡ true → i ≡ lowestFrom test (e - i) i
@@ -33,40 +36,41 @@ lowest-end test i e h =
     let k : e - i ≡ 0 = omega arith in
     rw k
 
--- the three kinds of place, each with its test, by the mark of the byte there
-module _ (n : ℕ) (image w : List ℕ) (f mark : ℕ) (b : mark ≡ getD w (memoryBytes n + f) 0) where
-  pub suspect-image : f < length image → suspect n image w f ≡ not (eqb mark 1 && eqb (getD w f 0) (getD image f 0))
+-- the three kinds of offset, each with its test; flash begins at place `from`, and the byte has this value and is known or not
+module _ (board : Board) (image : List ℕ) (w : Work) (f from : ℕ) (is-known : Bool) (value : ℕ) (o : from ≡ flashFrom board) (k : is-known ≡ known w (from + f)) (v : value ≡ getD (w .values) (from + f) 0) where
+  pub suspect-image : f < length image → not (is-known && eqb value (getD image f 0)) ≡ suspect board image w f
   unfolding suspect
-  suspect-image h = rw (lt-ltb f (length image) h, b)
+  suspect-image h = rw (lt-ltb f (length image) h, k, v, o)
 
-  pub suspect-rest : length image ≤ f → f < pagesEnd image → suspect n image w f ≡ not (eqb mark 1 && eqb (getD w f 0) 0xFF)
+  pub suspect-rest : length image ≤ f → f < pagesEnd board image → not (is-known && eqb value 0xFF) ≡ suspect board image w f
   unfolding suspect
-  suspect-rest h k = rw (le-ltb f (length image) h, lt-ltb f (pagesEnd image) k, b)
+  suspect-rest h b = rw (le-ltb f (length image) h, lt-ltb f (pagesEnd board image) b, k, v, o)
 
-  pub suspect-other : length image ≤ f → pagesEnd image ≤ f → suspect n image w f ≡ eqb mark 1
+  pub suspect-other : length image ≤ f → pagesEnd board image ≤ f → is-known ≡ suspect board image w f
   unfolding suspect
-  suspect-other h k = rw (le-ltb f (length image) h, le-ltb f (pagesEnd image) k, b)
+  suspect-other h b = rw (le-ltb f (length image) h, le-ltb f (pagesEnd board image) b, k, o)
 
 -- the end: c is the number of the first condition that fails
-module _ (n : ℕ) (image card : List ℕ) (d : Device) (w : List ℕ) (kept : Bool) (c : ℕ) (o : same (take optionBytes (drop (optionsFrom n) w)) card ≡ kept) (is : c ≡ endNumber d kept) where
-  by-number : endVerdict n image card d w ≡ endOr c (flashVerdict n (lowestFrom (suspect n image w) (flashBytes n) 0))
+module _ (board : Board) (image card : List ℕ) (d : Device) (w : Work) (kept : Bool) (c : ℕ) (o : kept ≡ same (optionsOf board (w .values)) card) (is : c ≡ endNumber board d kept) where
+  by-number : endVerdict board image card d w ≡ endOr c (flashVerdict board (lowestFrom (suspect board image w) (flashBytes board) 0))
   unfolding endVerdict
-  by-number = rw (o, is)
+  by-number = rw (sym o, is)
 
-  pub end-fails : c < 4 → verdict.End c ≡ endVerdict n image card d w
+  pub end-fails : c < 4 → verdict.End c ≡ endVerdict board image card d w
   end-fails h = sym (by-number ∙ rw (lt-ltb c 4 h))
 
-  end-flash : (f size : ℕ) → 4 ≤ c → f ≡ lowestFrom (suspect n image w) (flashBytes n) 0 → size ≡ flashBytes n → cond (ltb f size) (verdict.Flash f) verdict.Pass ≡ endVerdict n image card d w
+  end-flash : (f size : ℕ) → 4 ≤ c → f ≡ lowestFrom (suspect board image w) (flashBytes board) 0 → size ≡ flashBytes board → cond (ltb f size) (verdict.Flash f) verdict.Pass ≡ endVerdict board image card d w
   end-flash f size h e s = sym (by-number ∙ rw (le-ltb c 4 h, ← e, ← s))
 
-  pub end-wrong : (f size : ℕ) → 4 ≤ c → f ≡ lowestFrom (suspect n image w) (flashBytes n) 0 → size ≡ flashBytes n → f < size → verdict.Flash f ≡ endVerdict n image card d w
+  pub end-wrong : (f size : ℕ) → 4 ≤ c → f ≡ lowestFrom (suspect board image w) (flashBytes board) 0 → size ≡ flashBytes board → f < size → verdict.Flash f ≡ endVerdict board image card d w
   end-wrong f size h e s g = rw (lt-ltb f size g) at (end-flash f size h e s)
 
-  pub end-right : (f size : ℕ) → 4 ≤ c → f ≡ lowestFrom (suspect n image w) (flashBytes n) 0 → size ≡ flashBytes n → size ≤ f → verdict.Pass ≡ endVerdict n image card d w
+  pub end-right : (f size : ℕ) → 4 ≤ c → f ≡ lowestFrom (suspect board image w) (flashBytes board) 0 → size ≡ flashBytes board → size ≤ f → verdict.Pass ≡ endVerdict board image card d w
   end-right f size h e s g = rw (le-ltb f size g) at (end-flash f size h e s)
 
--- the options as a part of the work area
-pub options-part : (n from : ℕ) (w card : List ℕ) (b : Bool) → from ≡ optionsFrom n → b ≡ same (take (from + optionBytes - from) (drop from w)) card → same (take optionBytes (drop (optionsFrom n) w)) card ≡ b
-options-part n from w card b f e =
+-- the options as a part of a memory, given by its two ends
+pub options-part : (board : Board) (from : ℕ) (m card : List ℕ) → from ≡ optionsFrom board → same (take (from + optionBytes - from) (drop from m)) card ≡ same (optionsOf board m) card
+unfolding optionsOf
+options-part board from m card f =
     let k : from + optionBytes - from ≡ optionBytes = omega arith in
-    sym (e ∙ rw (k, f))
+    rw (k, f)

@@ -2,19 +2,22 @@
 ghost use mathlib.Core.Path.{_≡_};
 ghost use mathlib.Core.Bool.{true, false, not, _&&_};
 ghost use lib.Dec.{eqb};
-ghost use Prim.Native.Nat.{_+_, _-_, _*_, _≤_, _<_};
+ghost use Prim.Native.Nat.{_≤_, _<_};
 ghost use lib.ListN.{length};
 ghost use Rattle.refusal.specs.Order.{firstOf};
-ghost use Rattle.board.specs.Layout.{loggerPages, flashBytes, optionBytes};
+ghost use Rattle.board.specs.Layout.{logger, flashBytes, optionBytes, memoryBytes};
+ghost use Rattle.board.specs.Memory.{optionsOf};
+ghost use Rattle.board.specs.Sound.{Sound};
 ghost use Rattle.device.specs.State.{started};
 ghost use Rattle.states.specs.WellFormed.{wellFormed};
 ghost use Rattle.laws.specs.Lists.{same};
 ghost use Rattle.text.specs.Text.{eventsOf};
 ghost use Rattle.job.specs.Calls.{textRefusals};
-ghost use Rattle.demand.specs.Verdict.{isLeft};
-ghost use Rattle.checker.specs.Walk.{Ahead, Advanced, overAs};
+ghost use Rattle.demand.specs.Verdict.{isLeft, pagesEnd};
+ghost use Rattle.checker.specs.Walk.{Ahead, Advanced, overAs, InPlace};
 ghost use Rattle.verdict.specs.Report.{inFields};
 ghost use Rattle.marks.specs.Area.{workBytes};
+ghost use Rattle.marks.specs.Work.{workOf};
 ghost use Rattle.demand.specs.Checked.{checkable, Checked};
 ghost use Rattle.judgement.specs.Judgement.{overOf, suspect, lowestFrom, endNumber, endVerdict, begun, verdictOf};
 use board::Board;
@@ -28,52 +31,74 @@ use verdict::Verdict;
 
 // Can flash offset f be wrong on some board?
 fn is_suspect(board: Board, image: &[u8], work: &[u8], f: usize) -> bool
-    requires { ⌜ (length (now work) ≡ workBytes (board .pages)) × (f < flashBytes (board .pages)) × (length (now image) ≤ flashBytes (board .pages)) ⌝ }
-    ensures { λ r. ⌜ r ≡ suspect (board .pages) (now (image .entry)) (now (work .entry)) f ⌝ }
+    requires { ⌜ Sound board × (length (now work) ≡ workBytes board) × (f < flashBytes board) × (length (now image) ≤ flashBytes board) ⌝ }
+    ensures { λ r. ⌜ r ≡ suspect board (now (image .entry)) (workOf board (now (work .entry))) f ⌝ }
 {
-    let mark = marks::mark_of(board, work, f);
+    let place = board.flash_from() + f;
+    let known = marks::is_known(board, work, place);
+    let value = marks::value(board, work, place);
     if f < image.len() {
-        return differs(mark, work[f], image[f]);
+        return differs(known, value, image[f]);
     }
-    if f < board::pages_of(image) * Board::PAGE {
-        return differs(mark, work[f], 0xFF);
+    if f < pages_end(board, image) {
+        return differs(known, value, 0xFF);
     }
-    mark == 1
+    known
 }
 
-// Can a byte with this mark and value be another than the one wanted?
-fn differs(mark: u8, value: u8, want: u8) -> bool
-    ensures { λ r. ⌜ r ≡ not (eqb mark 1 && eqb value want) ⌝ }
+// Can a byte of this value, known or not, be another than the one wanted?
+fn differs(known: bool, value: u8, want: u8) -> bool
+    ensures { λ r. ⌜ r ≡ not (known && eqb value want) ⌝ }
 {
-    if mark != 1 {
+    if !known {
         return true;
     }
     value != want
 }
 
+// The flash offset at which the image's last page ends.
+fn pages_end(board: Board, image: &[u8]) -> usize
+    requires { ⌜ Sound board × (length (now image) ≤ flashBytes board) ⌝ }
+    ensures { λ r. ⌜ r ≡ pagesEnd board (now (image .entry)) ⌝ }
+{
+    board.page_offset(board.pages_of(image))
+}
+
+// Does flash begin with the image, and is it erased from there up to offset `end`?
+fn is_laid(board: Board, memory: &[u8], image: &[u8], end: usize) -> bool
+    requires { ⌜ Sound board × (length (now memory) ≡ memoryBytes board) × (length (now image) ≤ end) × (end ≤ flashBytes board) ⌝ }
+    ensures { λ r. ⌜ (r ≡ true → InPlace board (now (memory .entry)) (now (image .entry)) end) ⌝ }
+{
+    let flash = board.flash_from();
+    let behind = flash + image.len();
+    if !compare::same_bytes(&memory[flash..behind], image) {
+        return false;
+    }
+    compare::all_are(memory, behind, flash + end, 0xFF)
+}
+
 // Do long comparisons show that no offset is suspect? Where they do not, only a search can tell.
 fn is_right(board: Board, image: &[u8], work: &[u8]) -> bool
-    requires { ⌜ (length (now work) ≡ workBytes (board .pages)) × (length (now image) ≤ flashBytes (board .pages)) ⌝ }
-    ensures { λ r. ⌜ (r ≡ true → flashBytes (board .pages) ≡ lowestFrom (suspect (board .pages) (now (image .entry)) (now (work .entry))) (flashBytes (board .pages)) 0) ⌝ }
+    requires { ⌜ Sound board × (length (now work) ≡ workBytes board) × (length (now image) ≤ flashBytes board) ⌝ }
+    ensures { λ r. ⌜ (r ≡ true → flashBytes board ≡ lowestFrom (suspect board (now (image .entry)) (workOf board (now (work .entry)))) (flashBytes board) 0) ⌝ }
 {
-    let size = board.flash_bytes();
-    let end = board::pages_of(image) * Board::PAGE;
-    if !compare::same_bytes(&work[0..image.len()], image) {
+    let end = pages_end(board, image);
+    let values = marks::values_from(board);
+    let behind = values + board.memory_bytes();
+    if !is_laid(board, &work[values..behind], image, end) {
         return false;
     }
-    if !compare::all_are(work, image.len(), end, 0xFF) {
+    let flash = board.flash_from();
+    if !marks::all_known(board, work, flash, flash + end) {
         return false;
     }
-    if !marks::are_marked(board, work, 0, end, 1) {
-        return false;
-    }
-    marks::are_marked(board, work, end, size, 0)
+    marks::none_known(board, work, flash + end, flash + board.flash_bytes())
 }
 
 // The lowest suspect offset, or the size of the flash.
 fn search(board: Board, image: &[u8], work: &[u8]) -> usize
-    requires { ⌜ (length (now work) ≡ workBytes (board .pages)) × (length (now image) ≤ flashBytes (board .pages)) ⌝ }
-    ensures { λ r. ⌜ r ≡ lowestFrom (suspect (board .pages) (now (image .entry)) (now (work .entry))) (flashBytes (board .pages)) 0 ⌝ }
+    requires { ⌜ Sound board × (length (now work) ≡ workBytes board) × (length (now image) ≤ flashBytes board) ⌝ }
+    ensures { λ r. ⌜ r ≡ lowestFrom (suspect board (now (image .entry)) (workOf board (now (work .entry)))) (flashBytes board) 0 ⌝ }
 {
     let size = board.flash_bytes();
     let mut f = 0;
@@ -88,8 +113,8 @@ fn search(board: Board, image: &[u8], work: &[u8]) -> usize
 
 // The same; it searches only where something can be suspect.
 fn first_suspect(board: Board, image: &[u8], work: &[u8]) -> usize
-    requires { ⌜ (length (now work) ≡ workBytes (board .pages)) × (length (now image) ≤ flashBytes (board .pages)) ⌝ }
-    ensures { λ r. ⌜ r ≡ lowestFrom (suspect (board .pages) (now (image .entry)) (now (work .entry))) (flashBytes (board .pages)) 0 ⌝ }
+    requires { ⌜ Sound board × (length (now work) ≡ workBytes board) × (length (now image) ≤ flashBytes board) ⌝ }
+    ensures { λ r. ⌜ r ≡ lowestFrom (suspect board (now (image .entry)) (workOf board (now (work .entry)))) (flashBytes board) 0 ⌝ }
 {
     if is_right(board, image, work) {
         return board.flash_bytes();
@@ -97,15 +122,25 @@ fn first_suspect(board: Board, image: &[u8], work: &[u8]) -> usize
     search(board, image, work)
 }
 
-// The end conditions, then the flash.
-fn finish(board: Board, device: Device, image: &[u8], card: &[u8], work: &[u8]) -> Verdict
-    requires { ⌜ (length (now work) ≡ workBytes (board .pages)) × (length (now image) ≤ flashBytes (board .pages)) × (length (now card) ≡ optionBytes) ⌝ }
-    ensures { λ r. ⌜ r ≡ endVerdict (board .pages) (now (image .entry)) (now (card .entry)) device (now (work .entry)) ⌝ }
+// Are the option bytes of a memory those of the card?
+fn has_card(board: Board, memory: &[u8], card: &[u8]) -> bool
+    requires { ⌜ Sound board × (length (now memory) ≡ memoryBytes board) × (length (now card) ≡ optionBytes) ⌝ }
+    ensures { λ r. ⌜ r ≡ same (optionsOf board (now (memory .entry))) (now (card .entry)) ⌝ }
 {
     let from = board.options_from();
     let to = from + Board::OPTION_BYTES;
-    let same = compare::same_bytes(&work[from..to], card);
-    let fault = end_fault(device, same);
+    compare::same_bytes(&memory[from..to], card)
+}
+
+// The end conditions, then the flash.
+fn finish(board: Board, device: Device, image: &[u8], card: &[u8], work: &[u8]) -> Verdict
+    requires { ⌜ Sound board × (length (now work) ≡ workBytes board) × (length (now image) ≤ flashBytes board) × (length (now card) ≡ optionBytes) ⌝ }
+    ensures { λ r. ⌜ r ≡ endVerdict board (now (image .entry)) (now (card .entry)) device (workOf board (now (work .entry))) ⌝ }
+{
+    let values = marks::values_from(board);
+    let behind = values + board.memory_bytes();
+    let same = has_card(board, &work[values..behind], card);
+    let fault = end_fault(board, device, same);
     if fault < 4 {
         return Verdict::End(fault);
     }
@@ -117,14 +152,14 @@ fn finish(board: Board, device: Device, image: &[u8], card: &[u8], work: &[u8]) 
 }
 
 // The first end condition that fails, or 4: has the board left, from the first address, with the same options?
-fn end_fault(device: Device, same: bool) -> u8
-    ensures { λ r. ⌜ r ≡ endNumber device same ⌝ }
+fn end_fault(board: Board, device: Device, same: bool) -> u8
+    ensures { λ r. ⌜ r ≡ endNumber board device same ⌝ }
 {
     let mode = device.mode;
     if !has_left(mode) {
         return 1;
     }
-    if device.pointer != Board::FLASH {
+    if device.pointer != board.flash_first() {
         return 2;
     }
     if !same {
@@ -169,8 +204,8 @@ fn stuck(device: Device, at: usize) -> Onward
 
 // The event whose line begins at place `at`, on every board.
 fn advance(board: Board, device: Device, job: &[u8], at: usize, work: &mut [u8]) -> Onward
-    requires { ⌜ (length (now work) ≡ workBytes (board .pages)) × (1 ≤ board .pages) × (wellFormed (board .pages) device ≡ true) × Ahead (now job) at × (at < length (now job)) ⌝ }
-    ensures { λ r. ⌜ Advanced (board .pages) (now (job .entry)) at device (now (work .entry)) r (now (work .exit)) ⌝ }
+    requires { ⌜ Sound board × (length (now work) ≡ workBytes board) × (wellFormed board device ≡ true) × Ahead (now job) at × (at < length (now job)) ⌝ }
+    ensures { λ r. ⌜ Advanced board (now (job .entry)) at device (workOf board (now (work .entry))) r (workOf board (now (work .exit))) ⌝ }
 {
     let item = text::event_at(job, at);
     match item {
@@ -178,7 +213,7 @@ fn advance(board: Board, device: Device, job: &[u8], at: usize, work: &mut [u8])
         Item::Bad => stuck(device, at),
         Item::Attach { next } => Onward {
             falls: false,
-            device: device.attach(),
+            device: device.attach(board),
             behind: next,
         },
         Item::Request { setup, data, next } => {
@@ -206,10 +241,10 @@ enum Outcome {
 
 // The events of a job in turn, up to the first that fails.
 fn run(board: Board, job: &[u8], work: &mut [u8]) -> Outcome
-    requires { ⌜ (length (now work) ≡ workBytes (board .pages)) × (1 ≤ board .pages) × Ahead (now job) 0 ⌝ }
-    ensures { λ r. ⌜ overAs r (now (work .exit)) ≡ overOf (board .pages) (eventsOf (now (job .entry))) started (now (work .entry)) 0 ⌝ }
+    requires { ⌜ Sound board × (length (now work) ≡ workBytes board) × Ahead (now job) 0 ⌝ }
+    ensures { λ r. ⌜ overAs r (workOf board (now (work .exit))) ≡ overOf board (eventsOf (now (job .entry))) (started board) (workOf board (now (work .entry))) 0 ⌝ }
 {
-    let mut device = Device::START;
+    let mut device = Device::start(board);
     let mut at = 0;
     let mut events = 0;
     while at < job.len() {
@@ -227,19 +262,19 @@ fn run(board: Board, job: &[u8], work: &mut [u8]) -> Outcome
 
 // The options are known from the start, and nothing else.
 fn begin(board: Board, card: &[u8], work: &mut [u8])
-    requires { ⌜ (length (now work) ≡ workBytes (board .pages)) × (length (now card) ≡ optionBytes) ⌝ }
-    ensures { λ _. ⌜ now (work .exit) ≡ begun (board .pages) (now (card .entry)) (now (work .entry)) ⌝ }
+    requires { ⌜ Sound board × (length (now work) ≡ workBytes board) × (length (now card) ≡ optionBytes) ⌝ }
+    ensures { λ _. ⌜ workOf board (now (work .exit)) ≡ begun board (now (card .entry)) (workOf board (now (work .entry))) ⌝ }
 {
     let options = board.options_from();
-    marks::mark(board, work, 0, board.memory_bytes(), 0);
-    buffer::put(work, options, card);
-    marks::mark(board, work, options, options + Board::OPTION_BYTES, 1);
+    marks::forget(board, work);
+    marks::lay(board, work, options, card);
+    marks::learn(board, work, options, options + Board::OPTION_BYTES);
 }
 
 // The verdict of a job that is well formed.
 fn judge(board: Board, job: &[u8], image: &[u8], card: &[u8], work: &mut [u8]) -> Verdict
-    requires { ⌜ (length (now work) ≡ workBytes (board .pages)) × (1 ≤ board .pages) × Ahead (now job) 0 × (length (now image) ≤ flashBytes (board .pages)) × (length (now card) ≡ optionBytes) ⌝ }
-    ensures { λ r. ⌜ r ≡ verdictOf (board .pages) (eventsOf (now (job .entry))) (now (image .entry)) (now (card .entry)) (now (work .entry)) ⌝ }
+    requires { ⌜ Sound board × (length (now work) ≡ workBytes board) × Ahead (now job) 0 × (length (now image) ≤ flashBytes board) × (length (now card) ≡ optionBytes) ⌝ }
+    ensures { λ r. ⌜ r ≡ verdictOf board (eventsOf (now (job .entry))) (now (image .entry)) (now (card .entry)) (workOf board (now (work .entry))) ⌝ }
 {
     begin(board, card, work);
     let outcome = run(board, job, work);
@@ -251,7 +286,7 @@ fn judge(board: Board, job: &[u8], image: &[u8], card: &[u8], work: &mut [u8]) -
 
 // The refusals of a check, in their order.
 fn admit(board: Board, job: &[u8], image: usize, card: usize, work: usize) -> Admission
-    ensures { λ r. ⌜ r ≡ checkable (board .pages) (now (job .entry)) image card work ⌝ }
+    ensures { λ r. ⌜ r ≡ checkable board (now (job .entry)) image card work ⌝ }
 {
     if work != marks::work_bytes(board) {
         return Admission::Refused(Refusal::Work);
@@ -275,7 +310,7 @@ fn readable(job: &[u8]) -> Admission
 
 // Checks a job: does every board with this card, whatever its flash and RAM hold, end up with the image?
 pub fn check(job: &[u8], image: &[u8], card: &[u8], work: &mut [u8]) -> Verdict
-    ensures { λ r. ⌜ Checked loggerPages (now (job .entry)) (now (image .entry)) (now (card .entry)) (now (work .entry)) (inFields r) (now (work .exit)) ⌝ }
+    ensures { λ r. ⌜ Checked logger (now (job .entry)) (now (image .entry)) (now (card .entry)) (now (work .entry)) (inFields r) (now (work .exit)) ⌝ }
 {
     let board = Board::LOGGER;
     let admission = admit(board, job, image.len(), card.len(), work.len());

@@ -5,7 +5,8 @@ use mathlib.Core.List.{List}
 use Prim.Native.Nat.{ℕ}
 use Rattle.refusal.specs.Order.{met, before, beforeAll, inOrder}
 use Rattle.demand.specs.Checked.{checkRefusals}
+use Rattle.board.specs.declared.Board.{Board}
 
-pub check-in-order : (n : ℕ) (t : List ℕ) (image card work : ℕ) → inOrder (checkRefusals n t image card work) ≡ true
+pub check-in-order : (board : Board) (t : List ℕ) (image card work : ℕ) → inOrder (checkRefusals board t image card work) ≡ true
 unfolding met before beforeAll inOrder
-check-in-order n t image card work = refl
+check-in-order board t image card work = refl

@@ -5,9 +5,11 @@ use mathlib.Core.Bool.{Bool, true, false, not, _&&_, _||_}
 use mathlib.Core.List.{List, [], _∷_}
 use Prim.Native.Nat.{ℕ, zero, suc}
 use lib.Dec.{eqb}
-use lib.ListN.{length, drop, getD}
+use lib.ListN.{length, getD}
 use Rattle.laws.specs.Lists.{allBytes}
-use Rattle.board.specs.Layout.{memoryBytes, optionsFrom}
+use Rattle.board.specs.declared.Board.{Board}
+use Rattle.board.specs.Layout.{memoryBytes}
+use Rattle.board.specs.Memory.{optionsOf}
 use Rattle.request.specs.Request.{transferBytes, requestOf, isGetStatus}
 use Rattle.request.specs.Setup.{setupOf}
 use Rattle.device.specs.State.{started}
@@ -17,11 +19,11 @@ use Rattle.loader.specs.World.{World, worldOf, steppedOf}
 
 -- "every board of our layout with those option bytes, freshly attached, with any flash and RAM contents", whatever block
 -- and reply buffer hold
-pub record Fresh (n : ℕ) (card : List ℕ) (w : World) : Type 0 where
-  pub device : w .device ≡ started
-  pub memory : length (w .memory) ≡ memoryBytes n
+pub record Fresh (board : Board) (card : List ℕ) (w : World) : Type 0 where
+  pub device : w .device ≡ started board
+  pub memory : length (w .memory) ≡ memoryBytes board
   pub bytes : allBytes (w .memory) ≡ true
-  pub options : drop (optionsFrom n) (w .memory) ≡ card
+  pub options : optionsOf board (w .memory) ≡ card
   pub block : length (w .block) ≡ transferBytes
   pub reply : length (w .reply) ≡ transferBytes
 
@@ -37,7 +39,7 @@ fails e o =
     || (asksStatus e && (eqb (getD (o .answer) 0 0) replyTold && not (eqb (getD (o .reply) 0 0) 0)))
 
 -- event k, here counted from 0, fails on the board
-unfoldable pub failsAt : ℕ → List Event → ℕ → World → Bool
-failsAt n [] k w = false
-failsAt n (e ∷ es) zero w = fails e (steppedOf n w e)
-failsAt n (e ∷ es) (suc k) w = failsAt n es k (worldOf (steppedOf n w e))
+unfoldable pub failsAt : Board → List Event → ℕ → World → Bool
+failsAt board [] k w = false
+failsAt board (e ∷ es) zero w = fails e (steppedOf board w e)
+failsAt board (e ∷ es) (suc k) w = failsAt board es k (worldOf (steppedOf board w e))

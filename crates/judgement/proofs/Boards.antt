@@ -1,79 +1,88 @@
 -- Fresh boards stand where the work area begins; and two of them, to show a fault on. Assumes nothing.
 use mathlib.Core.Path.{_≡_, refl, ap, _∙_, sym}
 use mathlib.Core.Bool.{true, false}
-use mathlib.Core.Logic.{inl}
-use mathlib.Core.List.{List, _++_}
+use mathlib.Core.List.{List}
 use Prim.Native.Nat.{ℕ, zero, suc, _+_, _-_, _≤_, _<_}
 use native.Mathlib.Omega.{arith}
-use native.Mathlib.Nat.{add-zero}
 use lib.Dec.{ltb}
-use lib.ListN.{length, getD, replicate, length-append, length-replicate, getD-replicate, List·getD-append}
-use lib.Seq.{getD-drop, drop-at}
-use Rattle.laws.specs.Bytes.{filled}
-use Rattle.laws.proofs.Bytes.{filled-length}
-use Rattle.laws.proofs.Places.{put-in}
-use Rattle.laws.proofs.Split.{by-lt}
+use lib.ListN.{length, getD, replicate, length-replicate, getD-replicate}
+use Rattle.laws.specs.Bytes.{put}
+use Rattle.laws.specs.Lists.{allBytes}
+use Rattle.laws.proofs.Bytes.{put-length}
+use Rattle.laws.proofs.Lists.{bytes-put}
+use Rattle.laws.proofs.Places.{Outside, put-outside, among}
+use Rattle.board.specs.declared.Board.{Board}
 use Rattle.board.specs.Layout.{optionsFrom, optionBytes, memoryBytes}
+use Rattle.board.specs.Sound.{Sound}
+use Rattle.board.proofs.Options.{options-at, options-put}
 use Rattle.request.specs.Request.{transferBytes}
 use Rattle.device.specs.State.{started}
-use Rattle.laws.specs.Lists.{allBytes}
-use Rattle.laws.proofs.Lists.{bytes-append}
 use Rattle.loader.specs.World.{World}
 use Rattle.demand.specs.Boards.{Fresh}
-use Rattle.marks.specs.Area.{workBytes}
-use Rattle.marks.specs.Marks.{marked}
-use Rattle.cells.specs.Cells.{known, learnt}
+use Rattle.marks.specs.Work.{Work, known, learnt, forgotten, Sized}
+use Rattle.marks.proofs.Known.{learnt-sized, learnt-known, learnt-value, learnt-known-outside, forgotten-sized, forgotten-unknown}
 use Rattle.judgement.specs.Judgement.{begun}
-use Rattle.cells.proofs.Learnt.{learnt-length, learnt-known, learnt-value, learnt-known-outside}
 use Rattle.cells.proofs.Likeness.{Alike}
 use Rattle.judgement.proofs.Events.{Stands}
 
-module _ (n : ℕ) (card w : List ℕ) (lw : length w ≡ workBytes n) (lc : length card ≡ optionBytes) where
-  -- the work area with no mark set
-  bare : List ℕ
-  bare = filled (memoryBytes n) (memoryBytes n) 0 w
+module _ (board : Board) (sound : Sound board) (card : List ℕ) (w : Work) (sized : Sized board w) (lc : length card ≡ optionBytes) where
+  bare : Work
+  bare = forgotten board w
 
-  bare-length : length bare ≡ workBytes n
+  bare-sized : Sized board bare
   unfolding bare
-  bare-length =
-      let room : memoryBytes n + memoryBytes n ≤ length w = omega arith in
-      filled-length (memoryBytes n) (memoryBytes n) 0 w room ∙ lw
+  bare-sized = forgotten-sized board w sized
 
-  bare-unknown : (i : ℕ) → i < memoryBytes n → known n bare i ≡ false
-  unfolding bare filled
-  bare-unknown i h =
-      let zeros : List ℕ = replicate (memoryBytes n) 0 in
-      let l : length zeros ≡ memoryBytes n = length-replicate {A = ℕ} (memoryBytes n) 0 in
-      let room : memoryBytes n + length zeros ≤ length w = omega arith in
-      let lo : memoryBytes n ≤ memoryBytes n + i = omega arith in
-      let hi : memoryBytes n + i < memoryBytes n + length zeros = omega arith in
-      let place : memoryBytes n + i - memoryBytes n < memoryBytes n = omega arith in
-      rw (put-in (memoryBytes n) zeros w room (memoryBytes n + i) lo hi ∙ getD-replicate (memoryBytes n) (memoryBytes n + i - memoryBytes n) 0 0 place)
+  bare-unknown : (i : ℕ) → i < memoryBytes board → known bare i ≡ false
+  unfolding bare
+  bare-unknown i h = forgotten-unknown board w sized i h
 
-  ends : optionsFrom n + length card ≤ memoryBytes n
-  ends = omega arith
+  ends : optionsFrom board + length card ≤ memoryBytes board
+  ends = omega (arith, sound .options-in-memory)
 
-  begun-is : begun n card w ≡ learnt n (optionsFrom n) card bare
-  unfolding begun bare marked
-  begun-is = rw (add-zero (memoryBytes n))
+  begun-is : begun board card w ≡ learnt (optionsFrom board) card bare
+  unfolding begun bare
+  begun-is = refl
 
-  pub fresh-alike : (x : World) → Fresh n card x → Alike n (x .memory) (x .memory) (begun n card w)
+  pub begun-sized : Sized board (begun board card w)
+  begun-sized = rw begun-is (learnt-sized board (optionsFrom board) card bare ends bare-sized)
+
+  -- an option byte is known from the start, and no other byte is
+  pub begun-option : (k : ℕ) → k < optionBytes → known (begun board card w) (optionsFrom board + k) ≡ true
+  begun-option k h =
+      let low : optionsFrom board ≤ optionsFrom board + k = omega arith in
+      let high : optionsFrom board + k < optionsFrom board + length card = omega arith in
+      rw begun-is (learnt-known board (optionsFrom board) card bare ends bare-sized (optionsFrom board + k) low high)
+
+  pub begun-value : (k : ℕ) → k < optionBytes → getD (begun board card w .values) (optionsFrom board + k) 0 ≡ getD card k 0
+  begun-value k h =
+      let low : optionsFrom board ≤ optionsFrom board + k = omega arith in
+      let high : optionsFrom board + k < optionsFrom board + length card = omega arith in
+      let back : optionsFrom board + k - optionsFrom board ≡ k = omega arith in
+      rw begun-is (learnt-value board (optionsFrom board) card bare ends bare-sized (optionsFrom board + k) low high ∙ ap (λ (j : ℕ). getD card j 0) back)
+
+  pub begun-own : (i : ℕ) → i < memoryBytes board → Outside (optionsFrom board) optionBytes i → known (begun board card w) i ≡ false
+  begun-own i h o =
+      rw begun-is (learnt-known-outside board (optionsFrom board) card bare ends bare-sized i (rw lc o) ∙ bare-unknown i h)
+
+  pub fresh-alike : (x : World) → Fresh board card x → Alike board (x .memory) (x .memory) (begun board card w)
   fresh-alike x f =
-      rw begun-is
-      (record {
+      record {
         memory = f .memory;
-        work = learnt-length n (optionsFrom n) card bare ends bare-length ∙ bare-length;
+        work = begun-sized;
         cells = λ i h.
-            by-lt i (optionsFrom n)
-            (λ a. sym (rw (learnt-known-outside n (optionsFrom n) card bare ends bare-length i h (inl a) ∙ bare-unknown i h)))
-            (λ a.
-            let hi : i < optionsFrom n + length card = omega arith in
-            let back : optionsFrom n + (i - optionsFrom n) ≡ i = omega arith in
-            sym (rw (learnt-known n (optionsFrom n) card bare ends bare-length i a hi) (learnt-value n (optionsFrom n) card bare ends bare-length i a hi ∙ ap (λ (l : List ℕ). getD l (i - optionsFrom n) 0) (sym (f .options)) ∙ getD-drop (optionsFrom n) (x .memory) (i - optionsFrom n) 0 ∙ ap (λ (k : ℕ). getD (x .memory) k 0) back)));
-        options = λ i a h. let hi : i < optionsFrom n + length card = omega arith in learnt-known n (optionsFrom n) card bare ends bare-length i a hi;
-      })
+            among (optionsFrom board) optionBytes i
+            (λ lo hi.
+            let k : i - optionsFrom board < optionBytes = omega arith in
+            let back : optionsFrom board + (i - optionsFrom board) ≡ i = omega arith in
+            let option : getD (x .memory) (optionsFrom board + (i - optionsFrom board)) 0 ≡ getD (begun board card w .values) (optionsFrom board + (i - optionsFrom board)) 0 =
+            sym (options-at board (x .memory) (i - optionsFrom board) k) ∙ ap (λ (l : List ℕ). getD l (i - optionsFrom board) 0) (f .options) ∙ sym (begun-value (i - optionsFrom board) k) in
+            sym (rw (ap (known (begun board card w)) (sym back) ∙ begun-option (i - optionsFrom board) k) (rw back at (sym option))))
+            (λ o. sym (rw (begun-own i h o)));
+        options = begun-option;
+      }
 
-  pub fresh-stands : (x : World) → Fresh n card x → Stands n (x .memory) x started (begun n card w)
+  pub fresh-stands : (x : World) → Fresh board card x → Stands board (x .memory) x (started board) (begun board card w)
   fresh-stands x f = record { device = f .device; alike = fresh-alike x f; held = tt; block = f .block; reply = f .reply }
 
 all-replicate : (c count : ℕ) → ltb c 256 ≡ true → allBytes (replicate count c) ≡ true
@@ -82,27 +91,28 @@ all-replicate c zero h = refl
 all-replicate c (suc count) h = rw (h, all-replicate c count h)
 
 -- a board whose flash and RAM hold c everywhere
-unfoldable pub plain : ℕ → List ℕ → ℕ → World
-plain n card c = record { device = started; memory = replicate (optionsFrom n) c ++ card; block = replicate transferBytes 0; reply = replicate transferBytes 0 }
+unfoldable pub plain : Board → List ℕ → ℕ → World
+plain board card c = record { device = started board; memory = put (optionsFrom board) card (replicate (memoryBytes board) c); block = replicate transferBytes 0; reply = replicate transferBytes 0 }
 
-module _ (n : ℕ) (card : List ℕ) (c : ℕ) (lc : length card ≡ optionBytes) (bytes : allBytes card ≡ true) (small : ltb c 256 ≡ true) where
-  same-length : length (replicate (optionsFrom n) c) ≡ optionsFrom n
-  same-length = length-replicate {A = ℕ} (optionsFrom n) c
+module _ (board : Board) (sound : Sound board) (card : List ℕ) (c : ℕ) (lc : length card ≡ optionBytes) (bytes : allBytes card ≡ true) (small : ltb c 256 ≡ true) where
+  same-length : length (replicate (memoryBytes board) c) ≡ memoryBytes board
+  same-length = length-replicate {A = ℕ} (memoryBytes board) c
 
-  pub plain-fresh : Fresh n card (plain n card c)
+  room : optionsFrom board + length card ≤ length (replicate (memoryBytes board) c)
+  room = omega (arith, same-length, sound .options-in-memory)
+
+  pub plain-fresh : Fresh board card (plain board card c)
   unfolding plain
   plain-fresh =
       record {
         device = refl;
-        memory = length-append (replicate (optionsFrom n) c) card ∙ (let z : length (replicate (optionsFrom n) c) + length card ≡ memoryBytes n = omega (arith, same-length) in z);
-        bytes = bytes-append (replicate (optionsFrom n) c) card (all-replicate c (optionsFrom n) small) bytes;
-        options = drop-at (replicate (optionsFrom n) c) card (optionsFrom n) same-length;
+        memory = put-length (optionsFrom board) card (replicate (memoryBytes board) c) room ∙ same-length;
+        bytes = bytes-put (optionsFrom board) card (replicate (memoryBytes board) c) bytes (all-replicate c (memoryBytes board) small);
+        options = options-put board card (replicate (memoryBytes board) c) lc room;
         block = length-replicate {A = ℕ} transferBytes 0;
         reply = length-replicate {A = ℕ} transferBytes 0;
       }
 
-  pub plain-byte : (i : ℕ) → i < optionsFrom n → getD (plain n card c .memory) i 0 ≡ c
+  pub plain-byte : (i : ℕ) → i < memoryBytes board → Outside (optionsFrom board) optionBytes i → getD (plain board card c .memory) i 0 ≡ c
   unfolding plain
-  plain-byte i h =
-      let b : i < length (replicate (optionsFrom n) c) = omega (arith, same-length) in
-      List·getD-append (replicate (optionsFrom n) c) card 0 i b ∙ getD-replicate (optionsFrom n) i c 0 h
+  plain-byte i h o = put-outside (optionsFrom board) card (replicate (memoryBytes board) c) i room (rw lc o) ∙ getD-replicate (memoryBytes board) i c 0 h

@@ -1,18 +1,19 @@
 -- An event moves every board as it moves the work area, and falls on a board of zeros where it falls there. Assumes nothing.
 use mathlib.Core.Path.{_≡_, refl, ap, _∙_, sym}
 use mathlib.Core.Bool.{true, false}
-use mathlib.Core.Logic.{inl}
 use mathlib.Core.List.{List, [], _∷_}
-use Prim.Native.Nat.{ℕ, _+_, _-_, _≤_, _<_}
+use Prim.Native.Nat.{ℕ, _+_, _-_, _≤_}
 use native.Mathlib.Omega.{arith}
 use native.Mathlib.Nat.{min-le-right}
 use lib.Dec.{T, eqb}
 use lib.ListN.{length, take, drop, getD, length-take, length-drop}
 use Rattle.laws.specs.Bytes.{put}
-use Rattle.laws.proofs.Append.{take-put, part-put}
+use Rattle.laws.proofs.Append.{take-put}
 use Rattle.laws.proofs.Bytes.{put-length, take-at-most}
 use Rattle.laws.proofs.Split.{and-right-false}
+use Rattle.board.specs.declared.Board.{Board}
 use Rattle.board.specs.Layout.{optionsFrom, memoryBytes}
+use Rattle.board.specs.Sound.{Sound}
 use Rattle.protection.specs.Protection.{readProtected}
 use Rattle.request.specs.declared.Request.the-variants.{Download}
 use Rattle.request.specs.Request.{transferBytes, requestOf, isGetStatus}
@@ -45,18 +46,18 @@ use Rattle.loader.proofs.Admitted.{step-attaches, step-serves, admit-all, in-or
 use Rattle.line.specs.Event.{Event, attach, request}
 use Rattle.loader.specs.World.{World, worldOf, steppedOf}
 use Rattle.demand.specs.Boards.{fails, asksStatus}
-use Rattle.marks.specs.Marks.{blockFrom}
-use Rattle.cells.specs.Cells.{known, blockOf, falls, goes, readMoves, readsMoves, statusMoves, decisionMoves, requestMoves, moves}
+use Rattle.marks.specs.Work.{Work, blocked}
+use Rattle.marks.proofs.Known.{blocked-known, blocked-sized}
+use Rattle.cells.specs.Cells.{falls, goes, readMoves, readsMoves, statusMoves, decisionMoves, requestMoves, moves}
 use Rattle.cells.proofs.Likeness.{Alike}
-use Rattle.cells.proofs.Learnt.{put-outside}
-use Rattle.cells.proofs.Actions.{protection-same}
+use Rattle.cells.proofs.Actions.{Zeros, protection-same}
 use Rattle.judgement.proofs.Moves.{Held, goes-device, goes-work, falls-not, status-goes, status-falls}
 
 -- a board that began with memory m₀ stands where the device d and the work area w say
-pub record Stands (n : ℕ) (m₀ : List ℕ) (x : World) (d : Device) (w : List ℕ) : Type 0 where
+pub record Stands (board : Board) (m₀ : List ℕ) (x : World) (d : Device) (w : Work) : Type 0 where
   pub device : x .device ≡ d
-  pub alike : Alike n m₀ (x .memory) w
-  pub held : Held n (d .pending) (x .block) w
+  pub alike : Alike board m₀ (x .memory) w
+  pub held : Held (d .pending) (x .block) w
   pub block : length (x .block) ≡ transferBytes
   pub reply : length (x .reply) ≡ transferBytes
 
@@ -88,15 +89,12 @@ reply-length xs y h l =
     let room : 0 + length xs ≤ length y = omega arith in
     put-length 0 xs y room ∙ l
 
--- a request q on one board: n pages, state d, memory m, block buffer b, reply buffer y, which began as m₀, beside the work area w
-module _ (n : ℕ) (d : Device) (q m b y m₀ w : List ℕ) (form : Form n d) (fit : fitsOf q ≡ true) (s : Alike n m₀ m w) (held : Held n (d .pending) b w) (lb : length b ≡ transferBytes) (ly : length y ≡ transferBytes) where
-  abbrev Zeros : Type 0
-  Zeros = (i : ℕ) → i < optionsFrom n → getD m₀ i 0 ≡ 0
-
+-- a request q on one board: state d, memory m, block buffer b, reply buffer y, which began as m₀, beside the work area w
+module _ (board : Board) (sound : Sound board) (d : Device) (q m b y m₀ : List ℕ) (w : Work) (form : Form board d) (fit : fitsOf q ≡ true) (s : Alike board m₀ m w) (held : Held (d .pending) b w) (lb : length b ≡ transferBytes) (ly : length y ≡ transferBytes) where
   -- what is to be shown of a decision
   record Right (x : Decision) : Type 0 where
-    pub on : (d′ : Device) (w′ : List ℕ) → decisionMoves x n d (setupOf q) (drop 8 q) w ≡ goes d′ w′ → (fails (request q) (actedOf x n d q m b y) ≡ false) × Stands n m₀ (worldOf (actedOf x n d q m b y)) d′ w′
-    pub down : Zeros → decisionMoves x n d (setupOf q) (drop 8 q) w ≡ falls → fails (request q) (actedOf x n d q m b y) ≡ true
+    pub on : (d′ : Device) (w′ : Work) → decisionMoves x board d (setupOf q) (drop 8 q) w ≡ goes d′ w′ → (fails (request q) (actedOf x board d q m b y) ≡ false) × Stands board m₀ (worldOf (actedOf x board d q m b y)) d′ w′
+    pub down : Zeros board m₀ → decisionMoves x board d (setupOf q) (drop 8 q) w ≡ falls → fails (request q) (actedOf x board d q m b y) ≡ true
 
   silent-right : Right decided.Silent
   unfolding fails
@@ -106,57 +104,56 @@ module _ (n : ℕ) (d : Device) (q m b y m₀ w : List ℕ) (form : Form n d) (f
   unfolding fails
   stall-right next = record { on = λ d′ w′ e. absurd (falls-not d′ w′ e); down = λ z e. refl }
 
-  accept-right : (next : Device) → Held n (next .pending) b w → Right (decided.Accept next)
+  accept-right : (next : Device) → Held (next .pending) b w → Right (decided.Accept next)
   accept-right next h =
       record {
         on = λ d′ w′ e.
             let ed = goes-device next d′ w w′ e in
             let ew = goes-work next d′ w w′ e in
-            (accepted-fine (request q) (actedOf (decided.Accept next) n d q m b y) refl, rw (sym ed, sym ew) (record { device = refl; alike = s; held = h; block = lb; reply = ly }));
+            (accepted-fine (request q) (actedOf (decided.Accept next) board d q m b y) refl, rw (sym ed, sym ew) (record { device = refl; alike = s; held = h; block = lb; reply = ly }));
         down = λ z e. absurd (falls-not next w (sym e));
       }
 
   -- a block that is taken goes to the block buffer and to the work area's block
-  block-alike : (xs : List ℕ) → length xs ≤ transferBytes → Alike n m₀ m (put (blockFrom n) xs w)
-  block-alike xs h =
-      let room : blockFrom n + length xs ≤ length w = omega (arith, s .work) in
-      let same : (i : ℕ) → i < blockFrom n → getD (put (blockFrom n) xs w) i 0 ≡ getD w i 0 = λ i l. put-outside (blockFrom n) xs w i room (inl l) in
-      let marks : (i : ℕ) → i < memoryBytes n → known n (put (blockFrom n) xs w) i ≡ known n w i =
-      λ i l. let k : memoryBytes n + i < blockFrom n = omega arith in ap (λ (v : ℕ). eqb v 1) (same (memoryBytes n + i) k) in
+  taken : Work
+  taken = blocked (put 0 (drop 8 q) (w .block)) w
+
+  block-alike : length (drop 8 q) ≤ transferBytes → Alike board m₀ m taken
+  unfolding taken
+  block-alike h =
+      let b′ : List ℕ = put 0 (drop 8 q) (w .block) in
       record {
         memory = s .memory;
-        work = put-length (blockFrom n) xs w room ∙ s .work;
-        cells = λ i l. let k : i < blockFrom n = omega arith in s .cells i l ∙ sym (rw (marks i l, same i k));
-        options = λ i a l. marks i l ∙ s .options i a l;
+        work = blocked-sized board b′ w (reply-length (drop 8 q) (w .block) h (s .work .block)) (s .work);
+        cells = λ i l. s .cells i l ∙ sym (rw (blocked-known b′ w i));
+        options = λ k l. blocked-known b′ w (optionsFrom board + k) ∙ s .options k l;
       }
 
-  take-right : (next : Device) (count : ℕ) → length (drop 8 q) ≡ count → count ≤ transferBytes → (take count (put 0 (drop 8 q) b) ≡ blockOf n count (put (blockFrom n) (drop 8 q) w) → Held n (next .pending) (put 0 (drop 8 q) b) (put (blockFrom n) (drop 8 q) w)) → Right (decided.Take next)
+  take-right : (next : Device) (count : ℕ) → length (drop 8 q) ≡ count → count ≤ transferBytes → (take count (put 0 (drop 8 q) b) ≡ take count (taken .block) → Held (next .pending) (put 0 (drop 8 q) b) taken) → Right (decided.Take next)
+  unfolding taken
   take-right next count l h holds =
-      let xs : List ℕ = drop 8 q in
       let short : length (drop 8 q) ≤ transferBytes = omega arith in
-      let begins : blockFrom n ≤ length w = omega (arith, s .work) in
-      let both : take count (put 0 (drop 8 q) b) ≡ blockOf n count (put (blockFrom n) (drop 8 q) w) =
-      rw (sym l) (take-put (drop 8 q) b ∙ sym (part-put (drop 8 q) w (blockFrom n) begins)) in
+      let both : take count (put 0 (drop 8 q) b) ≡ take count (put 0 (drop 8 q) (w .block)) = rw (sym l) (take-put (drop 8 q) b ∙ sym (take-put (drop 8 q) (w .block))) in
       record {
         on = λ d′ w′ e.
-            let ed = goes-device next d′ (put (blockFrom n) (drop 8 q) w) w′ e in
-            let ew = goes-work next d′ (put (blockFrom n) (drop 8 q) w) w′ e in
-            (accepted-fine (request q) (actedOf (decided.Take next) n d q m b y) refl, rw (sym ed, sym ew) (record { device = refl; alike = block-alike (drop 8 q) short; held = holds both; block = reply-length (drop 8 q) b short lb; reply = ly }));
-        down = λ z e. absurd (falls-not next (put (blockFrom n) (drop 8 q) w) (sym e));
+            let ed = goes-device next d′ (blocked (put 0 (drop 8 q) (w .block)) w) w′ e in
+            let ew = goes-work next d′ (blocked (put 0 (drop 8 q) (w .block)) w) w′ e in
+            (accepted-fine (request q) (actedOf (decided.Take next) board d q m b y) refl, rw (sym ed, sym ew) (record { device = refl; alike = block-alike short; held = holds both; block = reply-length (drop 8 q) b short lb; reply = ly }));
+        down = λ z e. absurd (falls-not next (blocked (put 0 (drop 8 q) (w .block)) w) (sym e));
       }
 
   -- a reply to what is no GETSTATUS
-  replies : (next : Device) (count : ℕ) (xs : List ℕ) (o : Outcome) → o .answer ≡ 1 ∷ count ∷ [] → o .device ≡ next → o .memory ≡ m → o .block ≡ b → o .reply ≡ put 0 xs y → length xs ≤ transferBytes → asksStatus (request q) ≡ false → Held n (next .pending) b w → (d′ : Device) (w′ : List ℕ) → goes next w ≡ goes d′ w′ → (fails (request q) o ≡ false) × Stands n m₀ (worldOf o) d′ w′
+  replies : (next : Device) (count : ℕ) (xs : List ℕ) (o : Outcome) → o .answer ≡ 1 ∷ count ∷ [] → o .device ≡ next → o .memory ≡ m → o .block ≡ b → o .reply ≡ put 0 xs y → length xs ≤ transferBytes → asksStatus (request q) ≡ false → Held (next .pending) b w → (d′ : Device) (w′ : Work) → goes next w ≡ goes d′ w′ → (fails (request q) o ≡ false) × Stands board m₀ (worldOf o) d′ w′
   replies next count xs o ea ed em eb ey h a hp d′ w′ e =
       let id = goes-device next d′ w w′ e in
       let iw = goes-work next d′ w w′ e in
       (reply-fine (request q) o count ea a, rw (sym id, sym iw) (record { device = ed; alike = rw em s; held = rw eb hp; block = ap length eb ∙ lb; reply = ap length ey ∙ reply-length xs y h ly }))
 
-  commands-right : (next : Device) (count : ℕ) → asksStatus (request q) ≡ false → Held n (next .pending) b w → Right (decided.Commands next count)
+  commands-right : (next : Device) (count : ℕ) → asksStatus (request q) ≡ false → Held (next .pending) b w → Right (decided.Commands next count)
   commands-right next count a h =
       let short : length (take count commandCodes) ≤ transferBytes = short-codes count in
       record {
-        on = λ d′ w′ e. replies next count (take count commandCodes) (actedOf (decided.Commands next count) n d q m b y) refl refl refl refl refl short a h d′ w′ e;
+        on = λ d′ w′ e. replies next count (take count commandCodes) (actedOf (decided.Commands next count) board d q m b y) refl refl refl refl refl short a h d′ w′ e;
         down = λ z e. absurd (falls-not next w (sym e));
       }
     where
@@ -166,7 +163,7 @@ module _ (n : ℕ) (d : Device) (q m b y m₀ w : List ℕ) (form : Form n d) (f
   state-right : asksStatus (request q) ≡ false → Right decided.State
   state-right a =
       record {
-        on = λ d′ w′ e. replies d 1 (wireOf (d .mode) ∷ []) (actedOf decided.State n d q m b y) refl refl refl refl refl (omega arith) a held d′ w′ e;
+        on = λ d′ w′ e. replies d 1 (wireOf (d .mode) ∷ []) (actedOf decided.State board d q m b y) refl refl refl refl refl (omega arith) a held d′ w′ e;
         down = λ z e. absurd (falls-not d w (sym e));
       }
 
@@ -174,7 +171,7 @@ module _ (n : ℕ) (d : Device) (q m b y m₀ w : List ℕ) (form : Form n d) (f
   sent-short at count h = omega (arith, take-at-most count (drop at m))
 
   -- a read by an access that was found
-  read-on : (access : Access) (count : ℕ) → count ≤ transferBytes → asksStatus (request q) ≡ false → (d′ : Device) (w′ : List ℕ) → readMoves access d w ≡ goes d′ w′ → (fails (request q) (readAt access count d m b y) ≡ false) × Stands n m₀ (worldOf (readAt access count d m b y)) d′ w′
+  read-on : (access : Access) (count : ℕ) → count ≤ transferBytes → asksStatus (request q) ≡ false → (d′ : Device) (w′ : Work) → readMoves access d w ≡ goes d′ w′ → (fails (request q) (readAt access count d m b y) ≡ false) × Stands board m₀ (worldOf (readAt access count d m b y)) d′ w′
   read-on (Denied status) count h a d′ w′ e = absurd (falls-not d′ w′ e)
   read-on (InFlash at) count h a d′ w′ e = replies (entered d UploadIdle) count (take count (drop at m)) (readAt (InFlash at) count d m b y) refl refl refl refl refl (sent-short at count h) a held d′ w′ e
   read-on (InRam at) count h a d′ w′ e = replies (entered d UploadIdle) count (take count (drop at m)) (readAt (InRam at) count d m b y) refl refl refl refl refl (sent-short at count h) a held d′ w′ e
@@ -189,13 +186,13 @@ module _ (n : ℕ) (d : Device) (q m b y m₀ w : List ℕ) (form : Form n d) (f
 
   -- the board finds the access that was found for all
   found : Access
-  found = blockAccess n (readProtected n w) (setupOf q .value) (setupOf q .length) (d .pointer)
+  found = blockAccess board (readProtected board (w .values)) (setupOf q .value) (setupOf q .length) (d .pointer)
 
-  read-found : uploadedOf n d (setupOf q) m b y ≡ readAt found (setupOf q .length) d m b y
+  read-found : uploadedOf board d (setupOf q) m b y ≡ readAt found (setupOf q .length) d m b y
   unfolding uploadedOf found
-  read-found = rw (protection-same n m₀ m w s)
+  read-found = rw (protection-same board sound m₀ m w s)
 
-  moves-found : readsMoves n d (setupOf q) w ≡ readMoves found d w
+  moves-found : readsMoves board d (setupOf q) w ≡ readMoves found d w
   unfolding readsMoves found
   moves-found = refl
 
@@ -209,22 +206,22 @@ module _ (n : ℕ) (d : Device) (q m b y m₀ w : List ℕ) (form : Form n d) (f
       }
 
   -- a GETSTATUS
-  status-right : asksStatus (request q) ≡ true → ((d′ : Device) (w′ : List ℕ) → statusMoves n d w ≡ goes d′ w′ → Held n (d′ .pending) b w′) → Right decided.Status
+  status-right : asksStatus (request q) ≡ true → ((d′ : Device) (w′ : Work) → statusMoves board d w ≡ goes d′ w′ → Held (d′ .pending) b w′) → Right decided.Status
   unfolding statusOf
   status-right a hp =
-      let report = reportOf d (runOf n d b m .ran) in
+      let report = reportOf d (runOf board d b m .ran) in
       record {
         on = λ d′ w′ e.
-            let r = status-goes n d b m₀ m w form held s d′ w′ e in
-            (status-fine (request q) (actedOf decided.Status n d q m b y) 6 refl (put-first (report .status) _ y ∙ r .report), record { device = r .device; alike = r .alike; held = hp d′ w′ e; block = lb; reply = reply-length (statusBytes report) y (omega arith) ly });
-        down = λ z e. status-fails (request q) (actedOf decided.Status n d q m b y) 6 refl a (ap (λ (k : ℕ). eqb k 0) (put-first (report .status) _ y) ∙ status-falls n d b m₀ m w form held s z e);
+            let r = status-goes board sound d b m₀ m w form held s d′ w′ e in
+            (status-fine (request q) (actedOf decided.Status board d q m b y) 6 refl (put-first (report .status) _ y ∙ r .report), record { device = r .device; alike = r .alike; held = hp d′ w′ e; block = lb; reply = reply-length (statusBytes report) y (omega arith) ly });
+        down = λ z e. status-fails (request q) (actedOf decided.Status board d q m b y) 6 refl a (ap (λ (k : ℕ). eqb k 0) (put-first (report .status) _ y) ∙ status-falls board sound d b m₀ m w form held s z e);
       }
 
   -- nothing is pending then
-  status-held : (d′ : Device) (w′ : List ℕ) → statusMoves n d w ≡ goes d′ w′ → Held n (d′ .pending) b w′
+  status-held : (d′ : Device) (w′ : Work) → statusMoves board d w ≡ goes d′ w′ → Held (d′ .pending) b w′
   status-held d′ w′ e =
-      let r = status-goes n d b m₀ m w form held s d′ w′ e in
-      let none : d′ .pending ≡ Nothing = ap (λ (x : Device). x .pending) (sym (r .device)) ∙ after-status-none n d (runOf n d b m .ran) form in
+      let r = status-goes board sound d b m₀ m w form held s d′ w′ e in
+      let none : d′ .pending ≡ Nothing = ap (λ (x : Device). x .pending) (sym (r .device)) ∙ after-status-none board d (runOf board d b m .ran) form in
       rw none tt
 
   stage-length : requestOf (setupOf q) ≡ Download → length (drop 8 q) ≡ setupOf q .length
@@ -252,11 +249,11 @@ module _ (n : ℕ) (d : Device) (q m b y m₀ w : List ℕ) (form : Form n d) (f
         status = λ t. status-right (ap isGetStatus (t .asked)) status-held;
       })
 
-  serve-right-on : (d′ : Device) (w′ : List ℕ) → moves n d w (request q) ≡ goes d′ w′ → (fails (request q) (serveOf n d q m b y) ≡ false) × Stands n m₀ (worldOf (serveOf n d q m b y)) d′ w′
+  serve-right-on : (d′ : Device) (w′ : Work) → moves board d w (request q) ≡ goes d′ w′ → (fails (request q) (serveOf board d q m b y) ≡ false) × Stands board m₀ (worldOf (serveOf board d q m b y)) d′ w′
   unfolding moves requestMoves serveOf
   serve-right-on d′ w′ e = decided-right (commandOf (drop 8 q)) .on d′ w′ e
 
-  serve-right-down : Zeros → moves n d w (request q) ≡ falls → fails (request q) (serveOf n d q m b y) ≡ true
+  serve-right-down : Zeros board m₀ → moves board d w (request q) ≡ falls → fails (request q) (serveOf board d q m b y) ≡ true
   unfolding moves requestMoves serveOf
   serve-right-down z e = decided-right (commandOf (drop 8 q)) .down z e
 
@@ -266,37 +263,37 @@ Fitting attach = T true
 Fitting (request q) = fitsOf q ≡ true
 
 -- a call that no refusal stops is served
-in-order-serves : (n : ℕ) (d : Device) (q m b y : List ℕ) → InOrder n d q m b y → stepOf n d event.Request q m b y ≡ serveOf n d q m b y
-in-order-serves n d q m b y i = sym (step-serves n d event.Request q m b y _ refl (in-order-admitted n d q m b y i) refl)
+in-order-serves : (board : Board) (d : Device) (q m b y : List ℕ) → InOrder board d q m b y → stepOf board d event.Request q m b y ≡ serveOf board d q m b y
+in-order-serves board d q m b y i = sym (step-serves board d event.Request q m b y _ refl (in-order-admitted board d q m b y i) refl)
 
-attach-starts : (n : ℕ) (d : Device) (q m b y : List ℕ) → length m ≡ memoryBytes n → length b ≡ transferBytes → length y ≡ transferBytes → wellFormed n d ≡ true → stepOf n d event.Attach q m b y ≡ outcome Accepted started m b y
-attach-starts n d q m b y lm lb ly f = sym (step-attaches n d event.Attach q m b y _ refl (admit-all n d event.Attach q (sizesOf m b y) lm lb ly f refl) refl)
+attach-starts : (board : Board) (d : Device) (q m b y : List ℕ) → length m ≡ memoryBytes board → length b ≡ transferBytes → length y ≡ transferBytes → wellFormed board d ≡ true → stepOf board d event.Attach q m b y ≡ outcome Accepted (started board) m b y
+attach-starts board d q m b y lm lb ly f = sym (step-attaches board d event.Attach q m b y _ refl (admit-all board d event.Attach q (sizesOf m b y) lm lb ly f refl) refl)
 
-module _ (n : ℕ) (m₀ : List ℕ) (d : Device) (m b y w : List ℕ) (form : Form n d) (st : Stands n m₀ (record { device = d; memory = m; block = b; reply = y }) d w) where
+module _ (board : Board) (sound : Sound board) (m₀ : List ℕ) (d : Device) (m b y : List ℕ) (w : Work) (form : Form board d) (st : Stands board m₀ (record { device = d; memory = m; block = b; reply = y }) d w) where
   abbrev here : World
   here = record { device = d; memory = m; block = b; reply = y }
 
-  served : (q : List ℕ) → fitsOf q ≡ true → steppedOf n here (request q) ≡ serveOf n d q m b y
+  served : (q : List ℕ) → fitsOf q ≡ true → steppedOf board here (request q) ≡ serveOf board d q m b y
   unfolding steppedOf
-  served q f = in-order-serves n d q m b y (record { memory = st .alike .memory; block = st .block; reply = st .reply; device = well-formed n d form; request = f })
+  served q f = in-order-serves board d q m b y (record { sound = sound; memory = st .alike .memory; block = st .block; reply = st .reply; device = well-formed board d form; request = f })
 
-  attached : steppedOf n here attach ≡ outcome Accepted started m b y
+  attached : steppedOf board here attach ≡ outcome Accepted (started board) m b y
   unfolding steppedOf
-  attached = attach-starts n d [] m b y (st .alike .memory) (st .block) (st .reply) (well-formed n d form)
+  attached = attach-starts board d [] m b y (st .alike .memory) (st .block) (st .reply) (well-formed board d form)
 
   -- an event that goes on for all boards goes on here
-  pub event-on : (e : Event) → Fitting e → (d′ : Device) (w′ : List ℕ) → moves n d w e ≡ goes d′ w′ → (fails e (steppedOf n here e) ≡ false) × Stands n m₀ (worldOf (steppedOf n here e)) d′ w′
+  pub event-on : (e : Event) → Fitting e → (d′ : Device) (w′ : Work) → moves board d w e ≡ goes d′ w′ → (fails e (steppedOf board here e) ≡ false) × Stands board m₀ (worldOf (steppedOf board here e)) d′ w′
   unfolding moves
   event-on attach f d′ w′ e =
-      let ed = goes-device started d′ w w′ e in
-      let ew = goes-work started d′ w w′ e in
-      (accepted-fine attach (steppedOf n here attach) (ap (λ (o : Outcome). o .answer) attached), rw (attached, sym ed, sym ew) (record { device = refl; alike = st .alike; held = tt; block = st .block; reply = st .reply }))
+      let ed = goes-device (started board) d′ w w′ e in
+      let ew = goes-work (started board) d′ w w′ e in
+      (accepted-fine attach (steppedOf board here attach) (ap (λ (o : Outcome). o .answer) attached), rw (attached, sym ed, sym ew) (record { device = refl; alike = st .alike; held = tt; block = st .block; reply = st .reply }))
   event-on (request q) f d′ w′ e =
-      let r = serve-right-on n d q m b y m₀ w form f (st .alike) (st .held) (st .block) (st .reply) d′ w′ e in
+      let r = serve-right-on board sound d q m b y m₀ w form f (st .alike) (st .held) (st .block) (st .reply) d′ w′ e in
       (ap (fails (request q)) (served q f) ∙ r .0, rw (served q f) (r .1))
 
   -- one that falls for some falls on a board of zeros
-  pub event-down : (e : Event) → Fitting e → ((i : ℕ) → i < optionsFrom n → getD m₀ i 0 ≡ 0) → moves n d w e ≡ falls → fails e (steppedOf n here e) ≡ true
+  pub event-down : (e : Event) → Fitting e → Zeros board m₀ → moves board d w e ≡ falls → fails e (steppedOf board here e) ≡ true
   unfolding moves
-  event-down attach f z e = absurd (falls-not started w (sym e))
-  event-down (request q) f z e = ap (fails (request q)) (served q f) ∙ serve-right-down n d q m b y m₀ w form f (st .alike) (st .held) (st .block) (st .reply) z e
+  event-down attach f z e = absurd (falls-not (started board) w (sym e))
+  event-down (request q) f z e = ap (fails (request q)) (served q f) ∙ serve-right-down board sound d q m b y m₀ w form f (st .alike) (st .held) (st .block) (st .reply) z e

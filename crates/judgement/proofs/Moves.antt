@@ -2,13 +2,14 @@
 use mathlib.Core.Path.{_≡_, refl, ap, _∙_, sym}
 use mathlib.Core.Bool.{Bool, true, false, true≢false}
 use mathlib.Core.List.{List}
-use Prim.Native.Nat.{ℕ, _<_}
+use Prim.Native.Nat.{ℕ}
 use native.Mathlib.Omega.{arith}
 use lib.Dec.{T, eqb}
-use lib.ListN.{take, getD}
+use lib.ListN.{take}
 use borrow.Author.Tests.{eqb-true}
 use Rattle.laws.proofs.Split.{by-bool}
-use Rattle.board.specs.Layout.{optionsFrom}
+use Rattle.board.specs.declared.Board.{Board}
+use Rattle.board.specs.Sound.{Sound}
 use Rattle.board.specs.declared.Place.{Place}
 use Rattle.board.specs.declared.Place.the-variants.{Flash, Ram, Options, Outside}
 use Rattle.board.specs.Span.{placeOf}
@@ -25,76 +26,77 @@ use Rattle.action.specs.declared.Action.{Action}
 use Rattle.access.specs.declared.Access.{Access}
 use Rattle.access.specs.declared.Access.the-variants.{Denied, InFlash, InRam, InOptions}
 use Rattle.access.specs.Access.{blockAccess}
-use Rattle.action.specs.Action.{storeAt, eraseAt, actionIn, actionOf, ranOf}
-use Rattle.action.specs.Reach.{countOf}
-use Rattle.loader.specs.Perform.{performedOf}
+use Rattle.action.specs.Action.{storeAt, eraseAt, actionIn, actionOf, ranOf, writesOf}
+use Rattle.perform.specs.Perform.{performedOf}
 use Rattle.loader.specs.Serve.{Run, run, runOf}
-use Rattle.action.proofs.Bounds.{Fits, action-fits}
-use Rattle.cells.specs.Cells.{falls, goes, blockOf, workedOf, reports, statusMoves}
+use Rattle.action.specs.Reach.{Fits}
+use Rattle.action.proofs.Bounds.{action-fits}
+use Rattle.marks.specs.Work.{Work}
+use Rattle.cells.specs.Cells.{falls, goes, workedOf, reports, statusMoves}
 use Rattle.cells.proofs.Likeness.{Alike}
-use Rattle.cells.proofs.Actions.{protection-same}
+use Rattle.cells.proofs.Actions.{Zeros, protection-same}
 use Rattle.judgement.proofs.Performs.{performs-well, performs-ill}
 
 -- a pending write's bytes are in the board's block buffer and in the work area
-abbrev pub Held : ℕ → Pending → List ℕ → List ℕ → Type 0
-Held n Nothing b w = T true
-Held n (SetPointer address) b w = T true
-Held n (ErasePage address) b w = T true
-Held n MassErase b w = T true
-Held n ReadUnprotect b w = T true
-Held n (Write block count) b w = take count b ≡ blockOf n count w
+abbrev pub Held : Pending → List ℕ → Work → Type 0
+Held Nothing b w = T true
+Held (SetPointer address) b w = T true
+Held (ErasePage address) b w = T true
+Held MassErase b w = T true
+Held ReadUnprotect b w = T true
+Held (Write block count) b w = take count b ≡ take count (w .block)
 
 -- what an action takes from the block is held
-module _ (n : ℕ) (b w : List ℕ) where
+module _ (board : Board) (b : List ℕ) (w : Work) where
   abbrev Has : Action → Type 0
-  Has action = take (countOf action) b ≡ blockOf n (countOf action) w
+  Has action = take (writesOf action .count) b ≡ take (writesOf action .count) (w .block)
 
-  erase-has : (place : Place) → Has (eraseAt place)
+  erase-has : (place : Place) → Has (eraseAt board place)
   erase-has (Flash at) = refl
   erase-has (Ram at) = refl
   erase-has (Options at) = refl
   erase-has Outside = refl
 
-  store-has : (count : ℕ) (access : Access) → take count b ≡ blockOf n count w → Has (storeAt access count)
+  store-has : (count : ℕ) (access : Access) → take count b ≡ take count (w .block) → Has (storeAt access count)
   store-has count (Denied status) h = refl
   store-has count (InFlash at) h = h
   store-has count (InRam at) h = h
   store-has count (InOptions at) h = h
 
-  action-has : (protected : Bool) (pointer : ℕ) (pending : Pending) → Held n pending b w → Has (actionIn pending n protected pointer)
+  action-has : (protected : Bool) (pointer : ℕ) (pending : Pending) → Held pending b w → Has (actionIn pending board protected pointer)
   action-has protected pointer Nothing h = refl
-  action-has protected pointer (SetPointer address) h = by-bool (inRegion n address) (λ e. rw e) (λ e. rw e)
+  action-has protected pointer (SetPointer address) h = by-bool (inRegion board address) (λ e. rw e) (λ e. rw e)
   action-has true pointer (ErasePage address) h = refl
-  action-has false pointer (ErasePage address) h = erase-has (placeOf n address 1)
+  action-has false pointer (ErasePage address) h = erase-has (placeOf board address 1)
   action-has true pointer MassErase h = refl
   action-has false pointer MassErase h = refl
   action-has true pointer ReadUnprotect h = refl
   action-has false pointer ReadUnprotect h = refl
-  action-has protected pointer (Write block count) h = store-has count (blockAccess n protected block count pointer) h
+  action-has protected pointer (Write block count) h = store-has count (blockAccess board protected block count pointer) h
 
 -- a GETSTATUS whose command went well on every board, or one with nothing to run
-pub record Ran′ (n : ℕ) (d : Device) (b m₀ m w : List ℕ) (d′ : Device) (w′ : List ℕ) : Type 0 where
-  pub report : reportOf d (runOf n d b m .ran) .status ≡ 0
-  pub device : afterStatus d (runOf n d b m .ran) ≡ d′
-  pub alike : Alike n m₀ (runOf n d b m .memory) w′
+pub record Ran′ (board : Board) (d : Device) (b m₀ m : List ℕ) (w : Work) (d′ : Device) (w′ : Work) : Type 0 where
+  pub report : reportOf d (runOf board d b m .ran) .status ≡ 0
+  pub device : afterStatus d (runOf board d b m .ran) ≡ d′
+  pub alike : Alike board m₀ (runOf board d b m .memory) w′
 
-pub goes-device : (d d′ : Device) (w w′ : List ℕ) → goes d w ≡ goes d′ w′ → d ≡ d′
+pub goes-device : (d d′ : Device) (w w′ : Work) → goes d w ≡ goes d′ w′ → d ≡ d′
 goes-device d d′ w w′ e = cc
 
-pub goes-work : (d d′ : Device) (w w′ : List ℕ) → goes d w ≡ goes d′ w′ → w ≡ w′
+pub goes-work : (d d′ : Device) (w w′ : Work) → goes d w ≡ goes d′ w′ → w ≡ w′
 goes-work d d′ w w′ e = cc
 
-pub falls-not : (d : Device) (w : List ℕ) → falls ≡ goes d w → ⊥
+pub falls-not : (d : Device) (w : Work) → falls ≡ goes d w → ⊥
 falls-not d w e = let z : _≡_ {A = ℕ} 0 1 = cc in omega arith
 
 -- what `reports` tells
-reports-zero : (d d′ : Device) (ran : Ran) (w w′ : List ℕ) → reports d ran w ≡ goes d′ w′ → (reportOf d ran .status ≡ 0) × (afterStatus d ran ≡ d′) × (w ≡ w′)
+reports-zero : (d d′ : Device) (ran : Ran) (w w′ : Work) → reports d ran w ≡ goes d′ w′ → (reportOf d ran .status ≡ 0) × (afterStatus d ran ≡ d′) × (w ≡ w′)
 reports-zero d d′ ran w w′ e =
     by-bool (eqb (reportOf d ran .status) 0)
     (λ z. (eqb-true _ _ z, goes-device _ _ _ _ (rw z at e), goes-work _ _ _ _ (rw z at e)))
     (λ z. absurd (falls-not d′ w′ (rw z at e)))
 
-reports-falls : (d : Device) (ran : Ran) (w : List ℕ) → reports d ran w ≡ falls → eqb (reportOf d ran .status) 0 ≡ false
+reports-falls : (d : Device) (ran : Ran) (w : Work) → reports d ran w ≡ falls → eqb (reportOf d ran .status) 0 ≡ false
 reports-falls d ran w e =
     by-bool (eqb (reportOf d ran .status) 0) (λ z. absurd (falls-not (afterStatus d ran) w (sym (rw z at e)))) (λ z. z)
 
@@ -113,37 +115,37 @@ module _ (d : Device) (ran : Ran) (sync : isMode 3 (d .mode) ≡ true) where
   unfolding reportOf
   sync-shows z = rw (sync, z)
 
-module _ (n : ℕ) (d : Device) (b m₀ m w : List ℕ) (f : Form n d) (held : Held n (d .pending) b w) (s : Alike n m₀ m w) where
+module _ (board : Board) (sound : Sound board) (d : Device) (b m₀ m : List ℕ) (w : Work) (f : Form board d) (held : Held (d .pending) b w) (s : Alike board m₀ m w) where
   action : Action
-  action = actionOf n (readProtected n w) d
+  action = actionOf board (readProtected board (w .values)) d
 
-  fits : Fits n action
+  fits : Fits board action
   unfolding action
-  fits = action-fits n (readProtected n w) d (well-formed n d f)
+  fits = action-fits board sound (readProtected board (w .values)) d (well-formed board d f)
 
-  has : take (countOf action) b ≡ blockOf n (countOf action) w
+  has : take (writesOf action .count) b ≡ take (writesOf action .count) (w .block)
   unfolding action actionOf
-  has = action-has n b w (readProtected n w) (d .pointer) (d .pending) held
+  has = action-has board b w (readProtected board (w .values)) (d .pointer) (d .pending) held
 
   -- in mode 3 the board runs the action that was decided for all
-  run-acts : isMode 3 (d .mode) ≡ true → runOf n d b m ≡ run (ranOf action (d .pointer) (performedOf n action b m .status)) (performedOf n action b m .memory)
+  run-acts : isMode 3 (d .mode) ≡ true → runOf board d b m ≡ run (ranOf action (d .pointer) (performedOf board action b m .status)) (performedOf board action b m .memory)
   unfolding runOf action
-  run-acts e = rw (e, protection-same n m₀ m w s)
+  run-acts e = rw (e, protection-same board sound m₀ m w s)
 
-  run-rests : isMode 3 (d .mode) ≡ false → runOf n d b m ≡ run (nothingRan d) m
+  run-rests : isMode 3 (d .mode) ≡ false → runOf board d b m ≡ run (nothingRan d) m
   unfolding runOf
   run-rests e = rw e
 
-  pub status-goes : (d′ : Device) (w′ : List ℕ) → statusMoves n d w ≡ goes d′ w′ → Ran′ n d b m₀ m w d′ w′
+  pub status-goes : (d′ : Device) (w′ : Work) → statusMoves board d w ≡ goes d′ w′ → Ran′ board d b m₀ m w d′ w′
   unfolding statusMoves action
   status-goes d′ w′ e =
       by-bool (isMode 3 (d .mode))
       (λ y.
-      let ran : Ran = ranOf action (d .pointer) (workedOf n action w .status) in
-      let r = reports-zero d d′ ran (workedOf n action w .work) w′ (rw y at e) in
-      let well : workedOf n action w .status ≡ 0 = sync-well d ran y (r .0) in
-      let p = performs-well n b m₀ m w s action fits has well in
-      let same : runOf n d b m .ran ≡ ran = ap (λ (x : Run). x .ran) (run-acts y) ∙ ap (ranOf action (d .pointer)) (p .status ∙ sym well) in
+      let ran : Ran = ranOf action (d .pointer) (workedOf board action w .status) in
+      let r = reports-zero d d′ ran (workedOf board action w .work) w′ (rw y at e) in
+      let well : workedOf board action w .status ≡ 0 = sync-well d ran y (r .0) in
+      let p = performs-well board sound b m₀ m w s action fits has well in
+      let same : runOf board d b m .ran ≡ ran = ap (λ (x : Run). x .ran) (run-acts y) ∙ ap (ranOf action (d .pointer)) (p .status ∙ sym well) in
       record {
         report = ap (λ (x : Ran). reportOf d x .status) same ∙ r .0;
         device = ap (afterStatus d) same ∙ r .1;
@@ -152,24 +154,24 @@ module _ (n : ℕ) (d : Device) (b m₀ m w : List ℕ) (f : Form n d) (held : H
       (λ y.
       let ran : Ran = nothingRan d in
       let r = reports-zero d d′ ran w w′ (rw y at e) in
-      let same : runOf n d b m .ran ≡ ran = ap (λ (x : Run). x .ran) (run-rests y) in
+      let same : runOf board d b m .ran ≡ ran = ap (λ (x : Run). x .ran) (run-rests y) in
       record {
         report = ap (λ (x : Ran). reportOf d x .status) same ∙ r .0;
         device = ap (afterStatus d) same ∙ r .1;
         alike = rw (ap (λ (x : Run). x .memory) (run-rests y), sym (r .2)) s;
       })
 
-  pub status-falls : ((i : ℕ) → i < optionsFrom n → getD m₀ i 0 ≡ 0) → statusMoves n d w ≡ falls → eqb (reportOf d (runOf n d b m .ran) .status) 0 ≡ false
+  pub status-falls : Zeros board m₀ → statusMoves board d w ≡ falls → eqb (reportOf d (runOf board d b m .ran) .status) 0 ≡ false
   unfolding statusMoves action
   status-falls z e =
       by-bool (isMode 3 (d .mode))
       (λ y.
-      let ran : Ran = ranOf action (d .pointer) (workedOf n action w .status) in
-      let ill = sync-ill d ran y (reports-falls d ran (workedOf n action w .work) (rw y at e)) in
-      let p = performs-ill n b m₀ m w s z action fits has ill in
-      let same : runOf n d b m .ran ≡ ran = ap (λ (x : Run). x .ran) (run-acts y) ∙ ap (ranOf action (d .pointer)) p in
+      let ran : Ran = ranOf action (d .pointer) (workedOf board action w .status) in
+      let ill = sync-ill d ran y (reports-falls d ran (workedOf board action w .work) (rw y at e)) in
+      let p = performs-ill board sound b m₀ m w s z action fits has ill in
+      let same : runOf board d b m .ran ≡ ran = ap (λ (x : Run). x .ran) (run-acts y) ∙ ap (ranOf action (d .pointer)) p in
       ap (λ (x : Ran). eqb (reportOf d x .status) 0) same ∙ rw (sync-shows d ran y ill) ill)
       (λ y.
       let ran : Ran = nothingRan d in
-      let same : runOf n d b m .ran ≡ ran = ap (λ (x : Run). x .ran) (run-rests y) in
+      let same : runOf board d b m .ran ≡ ran = ap (λ (x : Run). x .ran) (run-rests y) in
       ap (λ (x : Ran). eqb (reportOf d x .status) 0) same ∙ reports-falls d ran w (rw y at e))

@@ -66,7 +66,7 @@ request-requires c κs =
     let i = t .before .before in
     let p = i .before .before .before .pre in
     let x = item-tells _ _ (p .3) _ (sym (i .event-at .ensures) ∙ t .item2 .given .1) in
-    (p .0, p .2, x .long, x .digits)
+    (p .0, p .1, p .2, x .long, x .digits)
 
 stuck-requires-3 : tie.Need-stuck-requires-3
 stuck-requires-3 c κs = search needs
@@ -99,7 +99,7 @@ returns-4 c =
     let t = c .before .before in
     let i = t .before .before in
     let p = i .before .before .before .pre in
-    attach-advanced _ _ _ _ _ (p .1) (p .2) _ _ (item-tells _ _ (p .3) _ (sym (i .event-at .ensures) ∙ t .item .given .1)) (c .attach .ensures)
+    attach-advanced _ _ _ _ _ (p .0) (p .2) _ _ (item-tells _ _ (p .3) _ (sym (i .event-at .ensures) ∙ t .item .given .1)) (c .attach .ensures)
 
 same-length-2 : tie.Need-same-length-2
 same-length-2 c = search needs
@@ -110,7 +110,7 @@ returns-5 c =
     let t = r .before .before .before .before in
     let i = t .before .before in
     let p = i .before .before .before .pre in
-    request-further _ _ _ _ _ _ _ _ (item-tells _ _ (p .3) _ (sym (i .event-at .ensures) ∙ t .item2 .given .1)) _ _ (r .request .ensures) (p .1) (p .2) (c .before .if1 .left)
+    request-further _ _ _ _ _ _ _ _ (item-tells _ _ (p .3) _ (sym (i .event-at .ensures) ∙ t .item2 .given .1)) _ _ (r .request .ensures) (p .0) (p .2) (c .before .if1 .left)
 
 pub advance-spec : {M : Type 1} → statement M
 advance-spec =

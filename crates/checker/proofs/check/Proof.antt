@@ -1,4 +1,5 @@
 -- `checker::check` meets its contract. Assumes nothing.
+use Rattle.board.proofs.Logger.{logger-sound}
 use mathlib.Core.Path.{refl}
 use native.Mathlib.Omega.{arith}
 use Rattle.laws.proofs.Lists.{bytes-all}
@@ -21,7 +22,7 @@ judge-requires c κs =
     let a = c .before .before .before in
     let x = a .before .before .before .before .before .args in
     let p = checked-parts _ _ (x .image .now) (x .card .now) (x .work .now) _ (a .admit .ensures) (c .before .enum-told .given .1) in
-    (p .area, omega arith, p .clean, p .supply .most, p .supply .options)
+    (logger-sound, p .area, p .clean, p .supply .most, p .supply .options)
 
 returns : tie.Need-returns
 returns c =
@@ -39,7 +40,7 @@ returns-2 c =
     let g = a .before .before in
     let x = g .before .before .before .args in
     let bytes = bytes-all (x .card .now) (λ i. omega (arith, g .shared-slice-known3 .given i)) in
-    checked-judged _ _ (x .image .now) (x .card .now) (x .work .now) _ (a .admit .ensures) _ _ (t .enum-told .given .1) (omega arith) bytes (c .before .before .judge .ensures)
+    checked-judged _ _ (x .image .now) (x .card .now) (x .work .now) _ (a .admit .ensures) _ _ (t .enum-told .given .1) logger-sound bytes (c .before .before .judge .ensures)
 
 pub check-spec : {M : Type 1} → statement M
 check-spec =

@@ -1,36 +1,55 @@
 -- `checker::finish` meets its contract. Assumes nothing.
-use Rattle.checker.proofs.Walking.{end-fails, end-wrong, end-right, options-part}
+use mathlib.Core.Path.{ap}
+use Rattle.marks.proofs.View.{work-sized}
+use lib.ListN.{length}
+use Rattle.checker.proofs.Walking.{end-fails, end-wrong, end-right}
+use Rattle.marks.proofs.View.{values-room, values-lent}
+use mathlib.Core.Path.{_∙_}
+use native.Mathlib.Omega.{arith}
 use borrow.Author.Needs.{needs}
 use Rattle.checker.proofs.finish.Statement.{statement}
 use Rattle.checker.proofs.finish.Tie as tie
 
-options-from-requires : tie.Need-options-from-requires
-options-from-requires c κs = search needs
+values-from-requires : tie.Need-values-from-requires
+values-from-requires c κs = search needs
 
-add-to : tie.Need-add-to
-add-to c = search needs
+memory-bytes-requires : tie.Need-memory-bytes-requires
+memory-bytes-requires c κs = search needs
 
-sub-same-bytes : tie.Need-sub-same-bytes
-sub-same-bytes c = search needs
+add-behind : tie.Need-add-behind
+add-behind c = let s = c .before .before .before .before .before in let p = s .pre in omega (arith, values-room (s .args .board) (s .args .work .now) (p .1))
 
-part-same-bytes-start : tie.Need-part-same-bytes-start
-part-same-bytes-start c = search needs
+sub-has-card : tie.Need-sub-has-card
+sub-has-card c = search needs
 
-part-same-bytes-end : tie.Need-part-same-bytes-end
-part-same-bytes-end c = search needs
+part-has-card-start : tie.Need-part-has-card-start
+part-has-card-start c = search needs
 
-same-bytes-requires : tie.Need-same-bytes-requires
-same-bytes-requires c κs = search needs
+part-has-card-end : tie.Need-part-has-card-end
+part-has-card-end c = let s = c .before .before .before .before .before in let p = s .pre in omega (arith, values-room (s .args .board) (s .args .work .now) (p .1))
+
+has-card-requires : tie.Need-has-card-requires
+has-card-requires c κs =
+    let m = c .before in
+    let v = m .before in
+    let s = v .before .before .before .before in
+    let p = s .pre in
+    let lent = values-lent (s .args .board) (s .args .work .now) (p .1) _ _ (v .values-from .ensures) (m .memory-bytes .ensures .0) in
+    (p .0, ap length lent ∙ work-sized (s .args .board) (s .args .work .now) (p .1) .values, p .3)
 
 end-fault-requires : tie.Need-end-fault-requires
 end-fault-requires c κs = search needs
 
 returns : tie.Need-returns
 returns c =
-    let e = c .before in
-    let o = e .before in
-    let k = options-part _ _ _ _ _ (o .before .before .options-from .ensures) (o .same-bytes .ensures) in
-    end-fails _ _ _ _ _ _ _ k (e .end-fault .ensures) (c .if1 .taken)
+    let h = c .before .before in
+    let m = h .before .before in
+    let v = m .before in
+    let s = v .before .before .before .before in
+    let p = s .pre in
+    let lent = values-lent (s .args .board) (s .args .work .now) (p .1) _ _ (v .values-from .ensures) (m .memory-bytes .ensures .0) in
+    let card = rw lent at (h .has-card .ensures) in
+    end-fails _ _ _ _ _ _ _ card (c .before .end-fault .ensures) (c .if1 .taken)
 
 first-suspect-requires : tie.Need-first-suspect-requires
 first-suspect-requires c κs = search needs
@@ -40,30 +59,37 @@ flash-bytes-requires c κs = search needs
 
 returns-2 : tie.Need-returns-2
 returns-2 c =
-    let i = c .before .before .before in
-    let e = i .before in
-    let o = e .before in
-    let k = options-part _ _ _ _ _ (o .before .before .options-from .ensures) (o .same-bytes .ensures) in
-    end-wrong _ _ _ _ _ _ _ k (e .end-fault .ensures) _ _ (i .if1 .left) (c .before .before .first-suspect .ensures) (c .before .flash-bytes .ensures) (c .if2 .taken)
+    let h = c .before .before .before .before .before in
+    let m = h .before .before in
+    let v = m .before in
+    let s = v .before .before .before .before in
+    let p = s .pre in
+    let lent = values-lent (s .args .board) (s .args .work .now) (p .1) _ _ (v .values-from .ensures) (m .memory-bytes .ensures .0) in
+    let card = rw lent at (h .has-card .ensures) in
+    end-wrong _ _ _ _ _ _ _ card (c .before .before .before .before .end-fault .ensures) _ _ (c .before .before .before .if1 .left) (c .before .before .first-suspect .ensures) (c .before .flash-bytes .ensures) (c .if2 .taken)
 
 returns-3 : tie.Need-returns-3
 returns-3 c =
-    let i = c .before .before .before in
-    let e = i .before in
-    let o = e .before in
-    let k = options-part _ _ _ _ _ (o .before .before .options-from .ensures) (o .same-bytes .ensures) in
-    end-right _ _ _ _ _ _ _ k (e .end-fault .ensures) _ _ (i .if1 .left) (c .before .before .first-suspect .ensures) (c .before .flash-bytes .ensures) (c .if2 .left)
+    let h = c .before .before .before .before .before in
+    let m = h .before .before in
+    let v = m .before in
+    let s = v .before .before .before .before in
+    let p = s .pre in
+    let lent = values-lent (s .args .board) (s .args .work .now) (p .1) _ _ (v .values-from .ensures) (m .memory-bytes .ensures .0) in
+    let card = rw lent at (h .has-card .ensures) in
+    end-right _ _ _ _ _ _ _ card (c .before .before .before .before .end-fault .ensures) _ _ (c .before .before .before .if1 .left) (c .before .before .first-suspect .ensures) (c .before .flash-bytes .ensures) (c .if2 .left)
 
 pub finish-spec : {M : Type 1} → statement M
 finish-spec =
     tie.close
     (tie.spec
-    options-from-requires
-    add-to
-    sub-same-bytes
-    part-same-bytes-start
-    part-same-bytes-end
-    same-bytes-requires
+    values-from-requires
+    memory-bytes-requires
+    add-behind
+    sub-has-card
+    part-has-card-start
+    part-has-card-end
+    has-card-requires
     end-fault-requires
     returns
     first-suspect-requires

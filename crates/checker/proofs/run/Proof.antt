@@ -1,5 +1,5 @@
 -- `checker::run` meets its contract. Assumes nothing.
-use mathlib.Core.Path.{_≡_, refl}
+use mathlib.Core.Path.{_≡_}
 use mathlib.Core.Bool.{true}
 use Prim.Native.Nat.{_-_, _≤_}
 use native.Mathlib.Omega.{arith}
@@ -10,6 +10,7 @@ use Rattle.states.proofs.Form.{well-formed}
 use Rattle.states.proofs.Form.{started-form}
 use Rattle.text.specs.Text.{eventsOf}
 use Rattle.marks.specs.Area.{workBytes}
+use Rattle.marks.specs.Work.{workOf}
 use Rattle.judgement.specs.Judgement.{overOf}
 use Rattle.checker.specs.Walk.{Ahead}
 use Rattle.checker.proofs.Advancing.{run-fell, run-on, run-over}
@@ -19,9 +20,9 @@ use Rattle.checker.proofs.run.Tie as tie
 
 abbrev Inv-loop : tie.InvT-loop
 Inv-loop board job work₀ device₀ at₀ events₀ work device at events =
-    (overOf (board .pages) (eventsOf (drop at job)) device work events ≡ overOf (board .pages) (eventsOf job) started work₀ 0)
-    × (length work ≡ workBytes (board .pages))
-    × (wellFormed (board .pages) device ≡ true)
+    (overOf board (eventsOf (drop at job)) device (workOf board work) events ≡ overOf board (eventsOf job) (started board) (workOf board work₀) 0)
+    × (length work ≡ workBytes board)
+    × (wellFormed board device ≡ true)
     × Ahead job at
     × (at ≤ length job)
     × (events ≤ at)
@@ -29,15 +30,18 @@ Inv-loop board job work₀ device₀ at₀ events₀ work device at events =
 abbrev μ-loop : tie.MeasureT-loop
 μ-loop board job work₀ device₀ at₀ events₀ work device at events = length job - at
 
+start-requires : tie.Need-start-requires Inv-loop μ-loop
+start-requires c κs = tt
+
 loop-holds : tie.Need-loop-holds Inv-loop μ-loop
 loop-holds c =
-    let p = c .before .before .pre in
-    (refl, p .0, well-formed _ _ (started-form _ (p .1)), p .2, omega arith, omega arith)
+    let p = c .before .before .before .pre in
+    (rw (c .start .ensures), p .1, rw (c .start .ensures) (well-formed _ _ (started-form _ (p .0))), p .2, omega arith, omega arith)
 
 advance-requires : tie.Need-advance-requires Inv-loop μ-loop
 advance-requires c κs =
     let l = c .before .before .loop .inv in
-    (l .1, c .before .before .before .before .before .pre .1, l .2, l .3, c .before .loop-test .taken)
+    (c .before .before .before .before .before .before .pre .0, l .1, l .2, l .3, c .before .loop-test .taken)
 
 add-events : tie.Need-add-events Inv-loop μ-loop
 add-events c =
@@ -82,6 +86,7 @@ run-spec =
     (tie.spec
     Inv-loop
     μ-loop
+    start-requires
     loop-holds
     advance-requires
     add-events

@@ -1,6 +1,7 @@
 -- `checker::search` meets its contract. Assumes nothing.
 use native.Mathlib.Omega.{arith}
 use Rattle.checker.proofs.Walking.{lowest-found, lowest-on, lowest-end}
+use Rattle.marks.specs.Work.{workOf}
 use Rattle.judgement.specs.Judgement.{suspect, lowestFrom}
 use native.Mathlib.Nat.{sub-zero}
 use Prim.Native.Nat.{_-_}
@@ -9,7 +10,7 @@ use Rattle.checker.proofs.search.Statement.{statement}
 use Rattle.checker.proofs.search.Tie as tie
 
 abbrev Inv-loop : tie.InvT-loop
-Inv-loop board image work size f₀ f = lowestFrom (suspect (board .pages) image work) (size - f) f ≡ lowestFrom (suspect (board .pages) image work) size 0
+Inv-loop board image work size f₀ f = lowestFrom (suspect board image (workOf board work)) (size - f) f ≡ lowestFrom (suspect board image (workOf board work)) size 0
 
 abbrev μ-loop : tie.MeasureT-loop
 μ-loop board image work size f₀ f = size - f
@@ -21,7 +22,7 @@ loop-holds : tie.Need-loop-holds Inv-loop μ-loop
 loop-holds c = rw sub-zero
 
 is-suspect-requires : tie.Need-is-suspect-requires Inv-loop μ-loop
-is-suspect-requires c κs = omega arith
+is-suspect-requires c κs = let p = c .before .before .before .before .before .pre in (p .0, p .1, omega arith, p .2)
 
 returns : tie.Need-returns Inv-loop μ-loop
 returns c =
