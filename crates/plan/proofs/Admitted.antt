@@ -10,36 +10,37 @@ use Rattle.refusal.specs.declared.Admission.{Admission}
 use Rattle.refusal.specs.declared.Admission.the-variants.{Admitted, Refused}
 use Rattle.refusal.specs.Order.{firstOf}
 use Rattle.refusal.proofs.First.{first-here, first-on, first-none, then, first-append, append-parts, first-exactly}
+use Rattle.board.specs.declared.Board.{Board}
 use Rattle.board.specs.Supply.{supplyRefusals, supplied}
 use Rattle.board.proofs.Supply.{Supplied, supplied-parts}
 use Rattle.plan.specs.Plan.{barred, planable}
 
-module _ (n : ℕ) (image card : List ℕ) where
+module _ (board : Board) (image card : List ℕ) where
   -- rows 7 and 8, which come to s, then 12
-  planable-then : (s : Admission) → supplied n (length image) (length card) ≡ s → planable n image card ≡ then s (firstOf ((Protected, barred image card) ∷ []))
+  planable-then : (s : Admission) → supplied board (length image) (length card) ≡ s → planable board image card ≡ then s (firstOf ((Protected, barred board image card) ∷ []))
   unfolding planable supplied
-  planable-then s is = first-append (supplyRefusals n (length image) (length card)) ((Protected, barred image card) ∷ []) s is
+  planable-then s is = first-append (supplyRefusals board (length image) (length card)) ((Protected, barred board image card) ∷ []) s is
 
-  pub planable-refused : (why : Refusal) → supplied n (length image) (length card) ≡ Refused why → planable n image card ≡ Refused why
+  pub planable-refused : (why : Refusal) → supplied board (length image) (length card) ≡ Refused why → planable board image card ≡ Refused why
   planable-refused why is = planable-then (Refused why) is
 
-  pub planable-barred : supplied n (length image) (length card) ≡ Admitted → barred image card ≡ true → planable n image card ≡ Refused Protected
+  pub planable-barred : supplied board (length image) (length card) ≡ Admitted → barred board image card ≡ true → planable board image card ≡ Refused Protected
   planable-barred is h = planable-then Admitted is ∙ first-here _ _ _ h
 
-  pub planable-all : supplied n (length image) (length card) ≡ Admitted → barred image card ≡ false → planable n image card ≡ Admitted
+  pub planable-all : supplied board (length image) (length card) ≡ Admitted → barred board image card ≡ false → planable board image card ≡ Admitted
   planable-all is h = planable-then Admitted is ∙ first-on _ _ _ h ∙ first-none
 
   -- what an admitted call was supplied with
-  module _ (e : planable n image card ≡ Admitted) where
-    parts : (supplied n (length image) (length card) ≡ Admitted) × (firstOf ((Protected, barred image card) ∷ []) ≡ Admitted)
+  module _ (e : planable board image card ≡ Admitted) where
+    parts : (supplied board (length image) (length card) ≡ Admitted) × (firstOf ((Protected, barred board image card) ∷ []) ≡ Admitted)
     unfolding planable supplied
-    parts = append-parts (supplyRefusals n (length image) (length card)) ((Protected, barred image card) ∷ []) e
+    parts = append-parts (supplyRefusals board (length image) (length card)) ((Protected, barred board image card) ∷ []) e
 
-    pub planable-supplied : supplied n (length image) (length card) ≡ Admitted
+    pub planable-supplied : supplied board (length image) (length card) ≡ Admitted
     planable-supplied = parts .0
 
-    pub planable-lengths : Supplied n (length image) (length card)
-    planable-lengths = supplied-parts n (length image) (length card) (parts .0)
+    pub planable-lengths : Supplied board (length image) (length card)
+    planable-lengths = supplied-parts board (length image) (length card) (parts .0)
 
-    pub planable-free : barred image card ≡ false
-    planable-free = first-exactly ((Protected, barred image card) ∷ []) Admitted .0 (parts .1) .0
+    pub planable-free : barred board image card ≡ false
+    planable-free = first-exactly ((Protected, barred board image card) ∷ []) Admitted .0 (parts .1) .0

@@ -9,7 +9,7 @@ use borrow.Author.Tests.{eq-eqb, ne-eqb}
 use Rattle.laws.specs.Bytes.{put}
 use Rattle.laws.proofs.Bytes.{put-seam}
 use Rattle.laws.proofs.Split.{by-eq}
-use Rattle.board.specs.Layout.{pageBytes}
+use Rattle.request.specs.Request.{transferBytes}
 use Rattle.line.specs.Event.{Event, request}
 use Rattle.plan.specs.Plan.{download, padded}
 use Rattle.plan.specs.Parts.{polledText, Laid, sentBytes, paddedLength}
@@ -17,7 +17,7 @@ use Rattle.plan.proofs.Lines.{padded-one, padded-more, padded-length}
 
 -- what the request holds behind its setup before the block is laid into it
 filler : List ℕ
-filler = replicate pageBytes 255
+filler = replicate transferBytes 255
 
 -- the block, and what pads it
 single : (xs : List ℕ) → length xs ≡ 1 → take 2 (xs ++ drop (length xs) filler) ≡ xs ++ (255 ∷ [])
@@ -38,13 +38,13 @@ block-fits xs m count at n is h room =
     let l : length (take (8 + count - 0) m) ≡ 8 + count - 0 = length-take-le (8 + count - 0) m (omega arith) in
     (omega arith, omega arith)
 
-module _ (xs m₁ m₂ : List ℕ) (count : ℕ) (is : count ≡ paddedLength (length xs)) (first : m₁ ≡ put 0 (0x21 ∷ 1 ∷ 2 ∷ 0 ∷ 0 ∷ 0 ∷ count % 256 ∷ count / 256 % 256 ∷ []) (replicate 1032 255)) (second : m₂ ≡ put 8 xs m₁) where
+module _ (xs m₁ m₂ : List ℕ) (count : ℕ) (is : count ≡ paddedLength (length xs)) (first : m₁ ≡ put 0 (0x21 ∷ 1 ∷ 2 ∷ 0 ∷ 0 ∷ 0 ∷ count % 256 ∷ count / 256 % 256 ∷ []) (replicate (8 + transferBytes) 255)) (second : m₂ ≡ put 8 xs m₁) where
   head : List ℕ
   head = 0x21 ∷ 1 ∷ 2 ∷ 0 ∷ 0 ∷ 0 ∷ count % 256 ∷ count / 256 % 256 ∷ []
 
-  start : put 0 head (replicate 1032 255) ≡ head ++ filler
+  start : put 0 head (replicate (8 + transferBytes) 255) ≡ head ++ filler
   unfolding filler head
-  start = put-seam [] head (replicate 1032 255)
+  start = put-seam [] head (replicate (8 + transferBytes) 255)
 
   laid : m₂ ≡ head ++ xs ++ drop (length xs) filler
   unfolding head

@@ -9,6 +9,8 @@ use Rattle.laws.specs.Lists.{allBytes}
 use Rattle.text.specs.Text.{limit, firstBad}
 use Rattle.text.proofs.EventText.{text-clean}
 use Rattle.job.proofs.Refusals.{text-good}
+use Rattle.board.specs.declared.Board.{Board}
+use Rattle.board.specs.Sound.{Sound}
 use Rattle.board.specs.Supply.{supplied}
 use Rattle.marks.specs.Area.{workBytes}
 use Rattle.demand.specs.Checked.{checkable}
@@ -16,11 +18,11 @@ use Rattle.demand.proofs.Supply.{checkable-then}
 use Rattle.plan.specs.Plan.{planEvents, planOf}
 use Rattle.plan.proofs.Proper.{plan-proper}
 
-plan-clean : (image : List ℕ) → allBytes image ≡ true → firstBad (planOf image) ≡ 0
+plan-clean : (board : Board) → Sound board → (image : List ℕ) → allBytes image ≡ true → firstBad (planOf board image) ≡ 0
 unfolding planOf
-plan-clean image y = text-clean (planEvents image) (plan-proper image y)
+plan-clean board sound image y = text-clean (planEvents board image) (plan-proper board sound image y)
 
 -- with a work area of the right size
-pub plan-checkable : (n : ℕ) (image card w : List ℕ) → allBytes image ≡ true → length (planOf image) ≤ limit → supplied n (length image) (length card) ≡ Admitted → length w ≡ workBytes n → checkable n (planOf image) (length image) (length card) (length w) ≡ Admitted
-plan-checkable n image card w y short s lw =
-    checkable-then n (planOf image) (length image) (length card) (length w) lw Admitted s ∙ text-good (planOf image) short (plan-clean image y)
+pub plan-checkable : (board : Board) → Sound board → (image card w : List ℕ) → allBytes image ≡ true → length (planOf board image) ≤ limit → supplied board (length image) (length card) ≡ Admitted → length w ≡ workBytes board → checkable board (planOf board image) (length image) (length card) (length w) ≡ Admitted
+plan-checkable board sound image card w y short s lw =
+    checkable-then board (planOf board image) (length image) (length card) (length w) lw Admitted s ∙ text-good (planOf board image) short (plan-clean board sound image y)

@@ -5,15 +5,14 @@ pub mod Length
 pub mod Protected
 pub mod BlockBytes
 pub mod Answers
-pub mod Printed
 pub mod Requests
 pub mod Written
 pub mod Image
-pub mod Card
 pub mod Pages
 pub mod Passes
 pub mod Proper
 pub mod Admitted
 pub mod Call
 pub mod Order
+pub mod Logger
 pub mod Theorems

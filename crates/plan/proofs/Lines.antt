@@ -6,12 +6,13 @@ use native.Mathlib.Omega.{arith}
 use lib.ListN.{length, length-append}
 use borrow.Author.Tests.{eq-eqb, ne-eqb}
 use Rattle.laws.proofs.Split.{by-eq}
-use Rattle.board.specs.Layout.{pageBytes, flashFirst}
+use Rattle.board.specs.declared.Board.{Board}
+use Rattle.board.specs.Layout.{pageAddress, flashFirst}
 use Rattle.line.specs.Event.{Event, request, lineOf}
 use Rattle.text.specs.Text.{textOf}
 use Rattle.line.proofs.SpellLine.{line-length-of}
 use Rattle.request.specs.Spelled.{four}
-use Rattle.plan.specs.Plan.{download, getStatus, polled, pageAddress, erasePage, setPointer, padded, pageOf}
+use Rattle.plan.specs.Plan.{download, getStatus, polled, erasePage, setPointer, padded, pageOf}
 use Rattle.plan.specs.Parts.{polledText, pageText, leavingText, statusLineBytes, sentBytes, leavingBytes, paddedLength, pageLines}
 
 -- a request's line, from what the writer of the line asks for and promises
@@ -65,32 +66,32 @@ padded-length xs =
     (λ h. let e : length (xs ++ (255 ∷ [])) ≡ 2 = length-append xs (255 ∷ []) ∙ (let k : length xs + 1 ≡ 2 = omega arith in k) in rw (eq-eqb (length xs) 1 h) (e ∙ padded-one (length xs) h))
     (λ h. rw (ne-eqb (length xs) 1 h) (padded-more (length xs) h))
 
-pub padded-at-most : (n : ℕ) → n ≤ pageBytes → paddedLength n ≤ pageBytes
-padded-at-most n h =
+pub padded-at-most : (n most : ℕ) → 2 ≤ most → n ≤ most → paddedLength n ≤ most
+padded-at-most n most two h =
     by-eq n 1
     (λ e. let p = padded-one n e in omega arith)
     (λ e. let p = padded-more n e in omega arith)
 
-pub page-length : (image : List ℕ) (page : ℕ) → length (pageText image page) ≡ pageLines image page
+pub page-length : (board : Board) (image : List ℕ) (page : ℕ) → length (pageText board image page) ≡ pageLines board image page
 unfolding pageText pageLines
-page-length image page =
-    let a : length (polledText (erasePage (pageAddress page))) ≡ sentBytes 5 = command-length 0x41 (pageAddress page) in
-    let b : length (polledText (setPointer (pageAddress page))) ≡ sentBytes 5 = command-length 0x21 (pageAddress page) in
-    let c = download-length 2 (padded (pageOf image page)) in
-    let d = padded-length (pageOf image page) in
+page-length board image page =
+    let a : length (polledText (erasePage (pageAddress board page))) ≡ sentBytes 5 = command-length 0x41 (pageAddress board page) in
+    let b : length (polledText (setPointer (pageAddress board page))) ≡ sentBytes 5 = command-length 0x21 (pageAddress board page) in
+    let c = download-length 2 (padded (pageOf board image page)) in
+    let d = padded-length (pageOf board image page) in
     rw (length-append, length-append) (omega arith)
 
 -- the end
-pub leaving-text : leavingText ≡ polledText (setPointer flashFirst) ++ lineOf (download 0 []) ++ lineOf getStatus
+pub leaving-text : (board : Board) → leavingText board ≡ polledText (setPointer (flashFirst board)) ++ lineOf (download 0 []) ++ lineOf getStatus
 unfolding leavingText textOf
-leaving-text = polled-behind (setPointer flashFirst) (download 0 [] ∷ getStatus ∷ []) ∙ simp (append-assoc, append-nil)
+leaving-text board = polled-behind (setPointer (flashFirst board)) (download 0 [] ∷ getStatus ∷ []) ∙ simp (append-assoc, append-nil)
 
 pub leave-length : length (lineOf (download 0 [])) ≡ 20
 leave-length = line-length-of (0x21 ∷ 1 ∷ 0 ∷ 0 ∷ 0 ∷ 0 ∷ 0 ∷ 0 ∷ []) (omega arith)
 
-pub leaving-length : length leavingText ≡ leavingBytes
-leaving-length =
-    let a = command-length 0x21 flashFirst in
+pub leaving-length : (board : Board) → length (leavingText board) ≡ leavingBytes
+leaving-length board =
+    let a = command-length 0x21 (flashFirst board) in
     let b = leave-length in
     let g = status-length in
-    rw (leaving-text, length-append, length-append) (omega arith)
+    rw (leaving-text board, length-append, length-append) (omega arith)

@@ -6,7 +6,8 @@ use Prim.Native.Nat.{ℕ}
 use Rattle.refusal.specs.Order.{met, before, beforeAll, inOrder}
 use Rattle.refusal.specs.Delivery.{withOutput}
 use Rattle.plan.specs.Plan.{planOf, planRefusals}
+use Rattle.board.specs.declared.Board.{Board}
 
-pub plan-in-order : (n : ℕ) (image card out : List ℕ) → inOrder (withOutput (planRefusals n image card) (planOf image) out) ≡ true
+pub plan-in-order : (board : Board) (image card out : List ℕ) → inOrder (withOutput (planRefusals board image card) (planOf board image) out) ≡ true
 unfolding met before beforeAll inOrder
-plan-in-order n image card out = refl
+plan-in-order board image card out = refl

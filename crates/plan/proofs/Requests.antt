@@ -1,17 +1,17 @@
 -- What the requests of a plan do to all boards, each followed by its two GETSTATUS. Assumes nothing.
-use mathlib.Core.Path.{_≡_, refl, ap, ap₂, _∙_}
+use mathlib.Core.Path.{_≡_, refl, ap₂, _∙_}
 use mathlib.Core.Bool.{true, false}
 use mathlib.Core.List.{List, [], _∷_, _++_}
-use Prim.Native.Nat.{ℕ, suc, _+_, _-_, _*_, _/_, _%_, _≤_, _<_}
+use Prim.Native.Nat.{ℕ, suc, _+_, _*_, _/_, _%_, _≤_, _<_}
 use native.Mathlib.Omega.{arith}
-use lib.ListN.{length}
+use lib.ListN.{length, take}
 use borrow.Author.Tests.{le-leb, le-ltb, ne-eqb}
 use Rattle.laws.specs.Bytes.{put}
+use Rattle.board.specs.declared.Board.{Board}
 use Rattle.board.specs.declared.Place.the-variants.{Flash}
-use Rattle.board.specs.Layout.{pageBytes, flashFirst, flashBytes}
+use Rattle.board.specs.Layout.{pageFrom, pageAddress, pageAt}
 use Rattle.protection.specs.Protection.{readProtected, wordOf}
 use Rattle.board.specs.Span.{placeOf}
-use Rattle.board.proofs.Span.{spans-room, place-flash}
 use Rattle.request.specs.declared.Setup.{Setup}
 use Rattle.request.specs.declared.Request.the-variants.{Download}
 use Rattle.request.specs.Setup.{setupOf}
@@ -34,11 +34,11 @@ use Rattle.access.proofs.Theorems.{second-access-at-pointer}
 use Rattle.action.specs.Action.{actionIn, actionOf, movedOf, rebootsOf}
 use Rattle.flash.specs.Flash.{stored}
 use Rattle.line.specs.Event.{Event}
-use Rattle.marks.specs.Marks.{blockFrom}
-use Rattle.cells.specs.Cells.{blockOf, surely, pageErased, worked, workedOf, goes, statusMoves, decisionMoves, requestMoves, moves}
+use Rattle.marks.specs.Work.{Work, valued, blocked}
+use Rattle.cells.specs.Cells.{surely, pageErased, worked, workedOf, goes, statusMoves, decisionMoves, requestMoves, moves}
 use Rattle.judgement.specs.Judgement.{overOf}
 use Rattle.request.specs.Spelled.{two, four}
-use Rattle.plan.specs.Plan.{download, getStatus, polled, pageAddress, erasePage, setPointer}
+use Rattle.plan.specs.Plan.{download, getStatus, polled, erasePage, setPointer}
 
 -- a device with nothing pending, and one that waits to run a command
 abbrev pub resting : Mode → ℕ → Device
@@ -87,85 +87,73 @@ unfolding commandOf
 address-read code address h = rw (four-back address h)
 
 -- DNLOAD in one of those modes, with the pointer at p
-module _ (n : ℕ) (mode : Mode) (p : ℕ) (w : List ℕ) (heard : isMode 0 mode ≡ false) (free : allowedOf Download mode ≡ true) where
-  download-moves : (value : ℕ) (xs : List ℕ) → value < 65536 → length xs ≤ transferBytes → moves n (resting mode p) w (download value xs) ≡ decisionMoves (downloadOf (resting mode p) (setupFor value (length xs)) (commandOf xs)) n (resting mode p) (setupFor value (length xs)) xs w
+module _ (board : Board) (mode : Mode) (p : ℕ) (w : Work) (heard : isMode 0 mode ≡ false) (free : allowedOf Download mode ≡ true) where
+  download-moves : (value : ℕ) (xs : List ℕ) → value < 65536 → length xs ≤ transferBytes → moves board (resting mode p) w (download value xs) ≡ decisionMoves (downloadOf (resting mode p) (setupFor value (length xs)) (commandOf xs)) board (resting mode p) (setupFor value (length xs)) xs w
   unfolding moves requestMoves decideOf requestOf outwardOf
   download-moves value xs v l =
       let l′ : length xs < 65536 = omega arith in
       rw (download-setup value xs v l′, heard, le-leb (length xs) transferBytes l, free)
 
-  pointer-moves : (address : ℕ) → address < 0x100000000 → moves n (resting mode p) w (setPointer address) ≡ goes (waiting (SetPointer address) p) w
+  pointer-moves : (address : ℕ) → address < 0x100000000 → moves board (resting mode p) w (setPointer address) ≡ goes (waiting (SetPointer address) p) w
   unfolding downloadOf commandedOf
   pointer-moves address h = download-moves 0 (0x21 ∷ four address) (omega arith) (omega arith) ∙ rw (address-read 0x21 address h)
 
-  erase-moves : (address : ℕ) → address < 0x100000000 → moves n (resting mode p) w (erasePage address) ≡ goes (waiting (ErasePage address) p) w
+  erase-moves : (address : ℕ) → address < 0x100000000 → moves board (resting mode p) w (erasePage address) ≡ goes (waiting (ErasePage address) p) w
   unfolding downloadOf commandedOf
   erase-moves address h = download-moves 0 (0x41 ∷ four address) (omega arith) (omega arith) ∙ rw (address-read 0x41 address h)
 
-  write-moves : (xs : List ℕ) → 1 ≤ length xs → length xs ≤ transferBytes → moves n (resting mode p) w (download 2 xs) ≡ goes (waiting (Write 2 (length xs)) p) (put (blockFrom n) xs w)
+  write-moves : (xs : List ℕ) → 1 ≤ length xs → length xs ≤ transferBytes → moves board (resting mode p) w (download 2 xs) ≡ goes (waiting (Write 2 (length xs)) p) (blocked (put 0 xs (w .block)) w)
   unfolding downloadOf
   write-moves xs a b =
       let some : length xs ≡ 0 → ⊥ = λ e. omega arith in
       download-moves 2 xs (omega arith) b ∙ rw (ne-eqb (length xs) 0 some)
 
-  pub leave-moves : moves n (resting mode p) w (download 0 []) ≡ goes (resting ManifestSync p) w
+  pub leave-moves : moves board (resting mode p) w (download 0 []) ≡ goes (resting ManifestSync p) w
   unfolding downloadOf
   leave-moves = download-moves 0 [] (omega arith) (omega arith)
 
-module _ (n p : ℕ) (w : List ℕ) where
+module _ (board : Board) (p : ℕ) (w : Work) where
   -- GETSTATUS in modes 3, 4 and 6
-  sync-moves : (pending : Pending) (action : Action) (w′ : List ℕ) → actionIn pending n (readProtected n w) p ≡ action → rebootsOf action ≡ false → workedOf n action w ≡ worked 0 w′ → moves n (waiting pending p) w getStatus ≡ goes (resting DownloadBusy (movedOf action p)) w′
+  sync-moves : (pending : Pending) (action : Action) (w′ : Work) → actionIn pending board (readProtected board (w .values)) p ≡ action → rebootsOf action ≡ false → workedOf board action w ≡ worked 0 w′ → moves board (waiting pending p) w getStatus ≡ goes (resting DownloadBusy (movedOf action p)) w′
   unfolding moves requestMoves setupOf decideOf requestOf inwardOf allowedOf statusMoves actionOf afterStatus reportOf
   sync-moves pending action w′ a r e = rw (a, e, r)
 
-  busy-moves : moves n (resting DownloadBusy p) w getStatus ≡ goes (resting DownloadIdle p) w
+  busy-moves : moves board (resting DownloadBusy p) w getStatus ≡ goes (resting DownloadIdle p) w
   unfolding moves requestMoves setupOf decideOf requestOf inwardOf allowedOf statusMoves afterStatus reportOf
   busy-moves = refl
 
-  pub manifest-moves : moves n (resting ManifestSync p) w getStatus ≡ goes (resting Left p) w
+  pub manifest-moves : moves board (resting ManifestSync p) w getStatus ≡ goes (resting Left p) w
   unfolding moves requestMoves setupOf decideOf requestOf inwardOf allowedOf statusMoves afterStatus reportOf
   manifest-moves = refl
 
 -- an event that all boards get over
-pub over-on : (n : ℕ) (e : Event) (es : List Event) (d d′ : Device) (w w′ : List ℕ) (k : ℕ) → moves n d w e ≡ goes d′ w′ → overOf n (e ∷ es) d w k ≡ overOf n es d′ w′ (suc k)
+pub over-on : (board : Board) (e : Event) (es : List Event) (d d′ : Device) (w w′ : Work) (k : ℕ) → moves board d w e ≡ goes d′ w′ → overOf board (e ∷ es) d w k ≡ overOf board es d′ w′ (suc k)
 unfolding overOf
-over-on n e es d d′ w w′ k h = rw h
+over-on board e es d d′ w w′ k h = rw h
 
 -- a request whose command runs at the GETSTATUS after it
-polled-on : (n : ℕ) (e : Event) (es : List Event) (mode : Mode) (p : ℕ) (w w₁ w₂ : List ℕ) (pending : Pending) (action : Action) (k : ℕ) → moves n (resting mode p) w e ≡ goes (waiting pending p) w₁ → actionIn pending n (readProtected n w₁) p ≡ action → rebootsOf action ≡ false → workedOf n action w₁ ≡ worked 0 w₂ → overOf n (polled e es) (resting mode p) w k ≡ overOf n es (resting DownloadIdle (movedOf action p)) w₂ (suc (suc (suc k)))
-polled-on n e es mode p w w₁ w₂ pending action k m a r v =
-    over-on n e (getStatus ∷ getStatus ∷ es) (resting mode p) (waiting pending p) w w₁ k m
-    ∙ over-on n getStatus (getStatus ∷ es) (waiting pending p) (resting DownloadBusy (movedOf action p)) w₁ w₂ (suc k) (sync-moves n p w₁ pending action w₂ a r v)
-    ∙ over-on n getStatus es (resting DownloadBusy (movedOf action p)) (resting DownloadIdle (movedOf action p)) w₂ w₂ (suc (suc k)) (busy-moves n (movedOf action p) w₂)
-
--- a span of flash lies there
-place-at : (n at count : ℕ) → at + count ≤ flashBytes n → placeOf n (flashFirst + at) count ≡ Flash at
-place-at n at count h =
-    let low : flashFirst ≤ flashFirst + at = omega arith in
-    let back : flashFirst + at - flashFirst ≡ at = omega arith in
-    let near : flashFirst + at - flashFirst ≤ flashBytes n = omega arith in
-    let room : count ≤ flashBytes n - (flashFirst + at - flashFirst) = omega arith in
-    place-flash n (flashBytes n) (flashFirst + at) count refl (spans-room flashFirst (flashBytes n) (flashFirst + at) count low near ∙ le-leb count (flashBytes n - (flashFirst + at - flashFirst)) room) ∙ ap Flash back
+polled-on : (board : Board) (e : Event) (es : List Event) (mode : Mode) (p : ℕ) (w w₁ w₂ : Work) (pending : Pending) (action : Action) (k : ℕ) → moves board (resting mode p) w e ≡ goes (waiting pending p) w₁ → actionIn pending board (readProtected board (w₁ .values)) p ≡ action → rebootsOf action ≡ false → workedOf board action w₁ ≡ worked 0 w₂ → overOf board (polled e es) (resting mode p) w k ≡ overOf board es (resting DownloadIdle (movedOf action p)) w₂ (suc (suc (suc k)))
+polled-on board e es mode p w w₁ w₂ pending action k m a r v =
+    over-on board e (getStatus ∷ getStatus ∷ es) (resting mode p) (waiting pending p) w w₁ k m
+    ∙ over-on board getStatus (getStatus ∷ es) (waiting pending p) (resting DownloadBusy (movedOf action p)) w₁ w₂ (suc k) (sync-moves board p w₁ pending action w₂ a r v)
+    ∙ over-on board getStatus es (resting DownloadBusy (movedOf action p)) (resting DownloadIdle (movedOf action p)) w₂ w₂ (suc (suc k)) (busy-moves board (movedOf action p) w₂)
 
 -- the three commands, each with its two GETSTATUS
-module _ (n : ℕ) (es : List Event) (mode : Mode) (heard : isMode 0 mode ≡ false) (free : allowedOf Download mode ≡ true) where
-  pub pointer-polled : (at p : ℕ) (w : List ℕ) (k : ℕ) → at < flashBytes n → flashFirst + at < 0x100000000 → overOf n (polled (setPointer (flashFirst + at)) es) (resting mode p) w k ≡ overOf n es (resting DownloadIdle (flashFirst + at)) w (suc (suc (suc k)))
-  unfolding inRegion
-  pointer-polled at p w k h a =
-      let one : at + 1 ≤ flashBytes n = omega arith in
-      polled-on n (setPointer (flashFirst + at)) es mode p w w w (SetPointer (flashFirst + at)) (Point (flashFirst + at)) k (pointer-moves n mode p w heard free (flashFirst + at) a) (rw (place-at n at 1 one)) refl refl
+module _ (board : Board) (es : List Event) (mode : Mode) (heard : isMode 0 mode ≡ false) (free : allowedOf Download mode ≡ true) where
+  pub pointer-polled : (address p : ℕ) (w : Work) (k : ℕ) → inRegion board address ≡ true → address < 0x100000000 → overOf board (polled (setPointer address) es) (resting mode p) w k ≡ overOf board es (resting DownloadIdle address) w (suc (suc (suc k)))
+  pointer-polled address p w k h a =
+      polled-on board (setPointer address) es mode p w w w (SetPointer address) (Point address) k (pointer-moves board mode p w heard free address a) (rw h) refl refl
 
-  pub erase-polled : (page p : ℕ) (w : List ℕ) (k : ℕ) → page < n → pageAddress page < 0x100000000 → readProtected n w ≡ false → overOf n (polled (erasePage (pageAddress page)) es) (resting mode p) w k ≡ overOf n es (resting DownloadIdle p) (pageErased n (wordOf n w) page w) (suc (suc (suc k)))
-  erase-polled page p w k h a r =
-      let one : page * pageBytes + 1 ≤ flashBytes n = omega arith in
-      let back : page * pageBytes / pageBytes ≡ page = omega arith in
-      polled-on n (erasePage (pageAddress page)) es mode p w w (pageErased n (wordOf n w) page w) (ErasePage (pageAddress page)) (Erase page) k (erase-moves n mode p w heard free (pageAddress page) a) (rw (r, place-at n (page * pageBytes) 1 one, back)) refl refl
+  pub erase-polled : (page p : ℕ) (w : Work) (k : ℕ) → placeOf board (pageAddress board page) 1 ≡ Flash (pageFrom board page) → pageAt board (pageFrom board page) ≡ page → pageAddress board page < 0x100000000 → readProtected board (w .values) ≡ false → overOf board (polled (erasePage (pageAddress board page)) es) (resting mode p) w k ≡ overOf board es (resting DownloadIdle p) (pageErased board (wordOf board (w .values)) page w) (suc (suc (suc k)))
+  erase-polled page p w k place holds a r =
+      polled-on board (erasePage (pageAddress board page)) es mode p w w (pageErased board (wordOf board (w .values)) page w) (ErasePage (pageAddress board page)) (Erase page) k
+      (erase-moves board mode p w heard free (pageAddress board page) a) (rw (r, place, holds)) refl refl
 
-  -- w′ is the work area with the block in its place
-  pub write-polled : (at : ℕ) (xs w w′ : List ℕ) (k : ℕ) → 2 ≤ length xs → length xs ≤ transferBytes → at + length xs ≤ flashBytes n → w′ ≡ put (blockFrom n) xs w → readProtected n w′ ≡ false → blockOf n (length xs) w′ ≡ xs → surely n (wordOf n w′) at (length xs) w′ ≡ true → overOf n (polled (download 2 xs) es) (resting mode (flashFirst + at)) w k ≡ overOf n es (resting DownloadIdle (flashFirst + at)) (stored (wordOf n w′) at xs w′) (suc (suc (suc k)))
+  -- w′ is what is known with the block in its place
+  pub write-polled : (address at : ℕ) (xs : List ℕ) (w w′ : Work) (k : ℕ) → 2 ≤ length xs → length xs ≤ transferBytes → placeOf board address (length xs) ≡ Flash at → w′ ≡ blocked (put 0 xs (w .block)) w → readProtected board (w′ .values) ≡ false → take (length xs) (w′ .block) ≡ xs → surely board (wordOf board (w′ .values)) at (length xs) w′ ≡ true → overOf board (polled (download 2 xs) es) (resting mode address) w k ≡ overOf board es (resting DownloadIdle address) (valued (stored board (wordOf board (w′ .values)) at xs (w′ .values)) w′) (suc (suc (suc k)))
   unfolding accessOf
-  write-polled at xs w w′ k a b h e r block sure =
+  write-polled address at xs w w′ k a b place e r block sure =
       let some : 1 ≤ length xs = omega arith in
-      polled-on n (download 2 xs) es mode (flashFirst + at) w w′ (stored (wordOf n w′) at xs w′) (Write 2 (length xs)) (StoreFlash at (length xs)) k
-      (write-moves n mode (flashFirst + at) w heard free xs some b ∙ rw e)
-      (rw (second-access-at-pointer n (readProtected n w′) (length xs) (flashFirst + at), r, place-at n at (length xs) h, le-ltb (length xs) 2 a)) refl (rw (sure, block))
+      polled-on board (download 2 xs) es mode address w w′ (valued (stored board (wordOf board (w′ .values)) at xs (w′ .values)) w′) (Write 2 (length xs)) (StoreFlash at (length xs)) k
+      (write-moves board mode address w heard free xs some b ∙ rw e)
+      (rw (second-access-at-pointer board (readProtected board (w′ .values)) (length xs) address, r, place, le-ltb (length xs) 2 a)) refl (rw (sure, block))

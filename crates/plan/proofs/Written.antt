@@ -1,99 +1,83 @@
 -- What is known of all boards once a page was erased and its bytes written. Assumes nothing.
-use mathlib.Core.Path.{_≡_, refl, ap, _∙_, sym}
+use mathlib.Core.Path.{_≡_, refl, _∙_, sym}
 use mathlib.Core.Bool.{true, false}
 use mathlib.Core.Logic.{inl, inr, ⊎-elim}
 use mathlib.Core.List.{List, [], _∷_}
-use Prim.Native.Nat.{ℕ, zero, suc, _+_, _-_, _*_, _≤_, _<_}
+use Prim.Native.Nat.{ℕ, zero, suc, _+_, _-_, _≤_, _<_}
 use native.Mathlib.Omega.{arith}
 use native.Mathlib.Nat.{not-suc-le-zero, le-of-suc-le-suc}
-use lib.Dec.{eqb}
 use lib.ListN.{length, drop, getD, replicate, length-replicate, getD-replicate, length-drop, List·getD-eq-default}
 use lib.Seq.{getD-drop}
-use borrow.Author.Tests.{eqb-true}
 use Rattle.laws.specs.Bytes.{put}
 use Rattle.laws.proofs.Bytes.{put-length}
-use Rattle.laws.proofs.Append.{part-put}
-use Rattle.laws.proofs.Places.{put-before}
+use Rattle.laws.proofs.Places.{Outside}
 use Rattle.laws.proofs.Split.{by-lt}
-use Rattle.board.specs.Layout.{pageBytes, memoryBytes}
+use Rattle.board.specs.declared.Board.{Board}
+use Rattle.board.specs.Layout.{flashPages, pageBytes, pageFrom, memoryBytes}
+use Rattle.board.specs.Sound.{Sound}
+use Rattle.board.proofs.Pages.{page-in-memory}
 use Rattle.protection.specs.Protection.{writeProtected}
 use Rattle.request.specs.Request.{transferBytes}
 use Rattle.flash.specs.Flash.{kept, each, blank, stored}
 use Rattle.flash.proofs.Places.{stored-length, stored-outside, stored-puts, each-if}
-use Rattle.marks.specs.Area.{workBytes}
-use Rattle.marks.specs.Marks.{blockFrom}
-use Rattle.cells.specs.Cells.{known, learnt, surely, pageErased, blockOf}
-use Rattle.cells.proofs.Learnt.{Outside, learnt-length, learnt-known, learnt-value, learnt-known-outside, learnt-value-outside}
+use Rattle.marks.specs.Work.{Work, known, valued, blocked, learnt, Sized}
+use Rattle.marks.proofs.Known.{valued-known, blocked-known, valued-sized, blocked-sized, learnt-sized, learnt-known, learnt-known-outside, learnt-value, learnt-value-outside}
+use Rattle.cells.specs.Cells.{surely, pageErased}
+use Rattle.cells.proofs.Sure.{sure-if}
 
 -- `count` places from `from` on are known with their values, and all others are as they were
-pub record Learns (n from count : ℕ) (value : ℕ → ℕ) (w w′ : List ℕ) : Type 0 where
-  pub size : length w′ ≡ workBytes n
-  pub values : (i : ℕ) → from ≤ i → i < from + count → getD w′ i 0 ≡ value i
-  pub knows : (i : ℕ) → from ≤ i → i < from + count → known n w′ i ≡ true
-  pub values-elsewhere : (i : ℕ) → i < memoryBytes n → Outside from count i → getD w′ i 0 ≡ getD w i 0
-  pub knows-elsewhere : (i : ℕ) → i < memoryBytes n → Outside from count i → known n w′ i ≡ known n w i
+pub record Learns (board : Board) (from count : ℕ) (value : ℕ → ℕ) (w w′ : Work) : Type 0 where
+  pub sized : Sized board w′
+  pub values : (i : ℕ) → from ≤ i → i < from + count → getD (w′ .values) i 0 ≡ value i
+  pub knows : (i : ℕ) → from ≤ i → i < from + count → known w′ i ≡ true
+  pub values-elsewhere : (i : ℕ) → Outside from count i → getD (w′ .values) i 0 ≡ getD (w .values) i 0
+  pub knows-elsewhere : (i : ℕ) → Outside from count i → known w′ i ≡ known w i
 
 -- equal bytes, learnt
-fill-learns : (n from count v : ℕ) (w : List ℕ) → from + count ≤ memoryBytes n → length w ≡ workBytes n → Learns n from count (λ i. v) w (learnt n from (replicate count v) w)
-fill-learns n from count v w h l =
+fill-learns : (board : Board) (from count v : ℕ) (w : Work) → from + count ≤ memoryBytes board → Sized board w → Learns board from count (λ i. v) w (learnt from (replicate count v) w)
+fill-learns board from count v w h s =
     let c : length (replicate count v) ≡ count = length-replicate {A = ℕ} count v in
-    let room : from + length (replicate count v) ≤ memoryBytes n = omega arith in
+    let room : from + length (replicate count v) ≤ memoryBytes board = omega arith in
     record {
-      size = learnt-length n from (replicate count v) w room l ∙ l;
+      sized = learnt-sized board from (replicate count v) w room s;
       values = λ i a b.
           let b′ : i < from + length (replicate count v) = omega arith in
           let j : i - from < count = omega arith in
-          learnt-value n from (replicate count v) w room l i a b′ ∙ getD-replicate count (i - from) v 0 j;
+          learnt-value board from (replicate count v) w room s i a b′ ∙ getD-replicate count (i - from) v 0 j;
       knows = λ i a b.
           let b′ : i < from + length (replicate count v) = omega arith in
-          learnt-known n from (replicate count v) w room l i a b′;
-      values-elsewhere = λ i b o. learnt-value-outside n from (replicate count v) w room l i b (rw c o);
-      knows-elsewhere = λ i b o. learnt-known-outside n from (replicate count v) w room l i b (rw c o);
+          learnt-known board from (replicate count v) w room s i a b′;
+      values-elsewhere = λ i o. learnt-value-outside board from (replicate count v) w room s i (rw c o);
+      knows-elsewhere = λ i o. learnt-known-outside board from (replicate count v) w room s i (rw c o);
     }
 
-pub erase-learns : (n word page : ℕ) (w : List ℕ) → page < n → writeProtected word page ≡ false → length w ≡ workBytes n → Learns n (page * pageBytes) pageBytes (λ i. 0xFF) w (pageErased n word page w)
+pub erase-learns : (board : Board) → Sound board → (word page : ℕ) (w : Work) → page < flashPages board → writeProtected word page ≡ false → Sized board w → Learns board (pageFrom board page) (pageBytes board) (λ i. 0xFF) w (pageErased board word page w)
 unfolding pageErased
-erase-learns n word page w h free l =
-    let room : page * pageBytes + pageBytes ≤ memoryBytes n = omega arith in
-    rw free (fill-learns n (page * pageBytes) pageBytes 0xFF w room l)
+erase-learns board sound word page w h free s =
+    rw free (fill-learns board (pageFrom board page) (pageBytes board) 0xFF w (page-in-memory board sound page h) s)
 
--- the block stands behind all that is known
-pub block-learns : (n from count : ℕ) (value : ℕ → ℕ) (xs w w′ : List ℕ) → from + count ≤ memoryBytes n → length xs ≤ transferBytes → Learns n from count value w w′ → Learns n from count value w (put (blockFrom n) xs w′)
-block-learns n from count value xs w w′ h x l =
-    let room : blockFrom n + length xs ≤ length w′ = omega (arith, l .size) in
-    let before : (i : ℕ) → i < blockFrom n → getD (put (blockFrom n) xs w′) i 0 ≡ getD w′ i 0 = put-before (blockFrom n) xs w′ room in
-    let marks : (i : ℕ) → i < memoryBytes n → known n (put (blockFrom n) xs w′) i ≡ known n w′ i =
-    λ i b. let b′ : memoryBytes n + i < blockFrom n = omega arith in ap (λ (k : ℕ). eqb k 1) (before (memoryBytes n + i) b′) in
+-- another block leaves what is known
+pub block-learns : (board : Board) (from count : ℕ) (value : ℕ → ℕ) (xs : List ℕ) (w w′ : Work) → length xs ≤ transferBytes → Learns board from count value w w′ → Learns board from count value w (blocked (put 0 xs (w′ .block)) w′)
+block-learns board from count value xs w w′ h l =
+    let b : List ℕ = put 0 xs (w′ .block) in
+    let room : 0 + length xs ≤ length (w′ .block) = omega (arith, l .sized .block) in
     record {
-      size = put-length (blockFrom n) xs w′ room ∙ l .size;
-      values = λ i a b. before i (omega arith) ∙ l .values i a b;
-      knows = λ i a b. marks i (omega arith) ∙ l .knows i a b;
-      values-elsewhere = λ i b o. before i (omega arith) ∙ l .values-elsewhere i b o;
-      knows-elsewhere = λ i b o. marks i b ∙ l .knows-elsewhere i b o;
+      sized = blocked-sized board b w′ (put-length 0 xs (w′ .block) room ∙ l .sized .block) (l .sized);
+      values = l .values;
+      knows = λ i p q. blocked-known b w′ i ∙ l .knows i p q;
+      values-elsewhere = l .values-elsewhere;
+      knows-elsewhere = λ i o. blocked-known b w′ i ∙ l .knows-elsewhere i o;
     }
-
-pub block-is : (n : ℕ) (xs w : List ℕ) → length w ≡ workBytes n → blockOf n (length xs) (put (blockFrom n) xs w) ≡ xs
-block-is n xs w l =
-    let room : blockFrom n ≤ length w = omega arith in
-    part-put xs w (blockFrom n) room
 
 -- bytes that are known to be erased pass the test on every board
-pub white-surely : (n word at count all : ℕ) (w w′ : List ℕ) → count ≤ all → at + all ≤ memoryBytes n → Learns n at all (λ i. 0xFF) w w′ → surely n word at count w′ ≡ true
+pub white-surely : (board : Board) (word at count all : ℕ) (w w′ : Work) → count ≤ all → at + all ≤ memoryBytes board → Learns board at all (λ i. 0xFF) w w′ → surely board word at count w′ ≡ true
 unfolding surely blank
-white-surely n word at count all w w′ h r l =
-    let values-room : count ≤ length (drop at w′) = rw length-drop (omega (arith, l .size)) in
-    let marks-room : count ≤ length (drop (memoryBytes n + at) w′) = rw length-drop (omega (arith, l .size)) in
-    let white : each 0xFF word at count (drop at w′) ≡ true =
-    each-if 0xFF word at count (drop at w′) values-room
-    (λ j b k. let lo : at ≤ at + j = omega arith in let hi : at + j < at + all = omega arith in getD-drop at w′ j 0 ∙ l .values (at + j) lo hi) in
-    let marks : each 1 word at count (drop (memoryBytes n + at) w′) ≡ true =
-    each-if 1 word at count (drop (memoryBytes n + at) w′) marks-room
-    (λ j b k.
-    let lo : at ≤ at + j = omega arith in
-    let hi : at + j < at + all = omega arith in
-    let c : memoryBytes n + at + j ≡ memoryBytes n + (at + j) = omega arith in
-    getD-drop (memoryBytes n + at) w′ j 0 ∙ ap (λ (x : ℕ). getD w′ x 0) c ∙ eqb-true _ 1 (l .knows (at + j) lo hi)) in
-    rw (white, marks)
+white-surely board word at count all w w′ h r l =
+    let room : count ≤ length (drop at (w′ .values)) = rw length-drop (omega (arith, l .sized .values)) in
+    let white : each board 0xFF word at count (drop at (w′ .values)) ≡ true =
+    each-if board 0xFF word at count (drop at (w′ .values)) room
+    (λ j b k. let lo : at ≤ at + j = omega arith in let hi : at + j < at + all = omega arith in getD-drop at (w′ .values) j 0 ∙ l .values (at + j) lo hi) in
+    rw (white, sure-if board word w′ count at (λ i a b k. l .knows i a (omega arith)))
 
 -- within a list, its default does not matter
 pub default-same : (xs : List ℕ) (i d e : ℕ) → i < length xs → getD xs i d ≡ getD xs i e
@@ -102,24 +86,24 @@ default-same (x ∷ xs) zero d e h = refl
 default-same (x ∷ xs) (suc i) d e h = default-same xs i d e (le-of-suc-le-suc h)
 
 -- bytes stored in an erased page: the rest of it stays erased
-pub store-learns : (n word at all : ℕ) (xs w w′ : List ℕ) → length xs ≤ all → at + all ≤ memoryBytes n → ((i : ℕ) → at ≤ i → i < at + all → kept word i ≡ false) → Learns n at all (λ i. 0xFF) w w′ → Learns n at all (λ i. getD xs (i - at) 0xFF) w (stored word at xs w′)
-store-learns n word at all xs w w′ h r free l =
-    let room : at + length xs ≤ length w′ = omega (arith, l .size) in
-    let marks : (i : ℕ) → known n (stored word at xs w′) i ≡ known n w′ i =
-    λ i. let past : at + length xs ≤ memoryBytes n + i = omega arith in ap (λ (k : ℕ). eqb k 1) (stored-outside word xs at w′ (memoryBytes n + i) room (inr past)) in
+pub store-learns : (board : Board) (word at all : ℕ) (xs : List ℕ) (w w′ : Work) → length xs ≤ all → at + all ≤ memoryBytes board → ((i : ℕ) → at ≤ i → i < at + all → kept board word i ≡ false) → Learns board at all (λ i. 0xFF) w w′ → Learns board at all (λ i. getD xs (i - at) 0xFF) w (valued (stored board word at xs (w′ .values)) w′)
+store-learns board word at all xs w w′ h r free l =
+    let m : List ℕ = w′ .values in
+    let m′ : List ℕ = stored board word at xs (w′ .values) in
+    let room : at + length xs ≤ length (w′ .values) = omega (arith, l .sized .values) in
     let narrow : (i : ℕ) → Outside at all i → Outside at (length xs) i =
     λ i o. ⊎-elim (λ a. inl a) (λ a. let z : at + length xs ≤ i = omega arith in inr z) o in
     record {
-      size = stored-length word xs at w′ room ∙ l .size;
+      sized = valued-sized board m′ w′ (stored-length board word xs at m room ∙ l .sized .values) (l .sized);
       values = λ i a b.
           by-lt i (at + length xs)
           (λ c.
           let j : i - at < length xs = omega arith in
-          stored-puts word xs at w′ i room a c (free i a b) ∙ default-same xs (i - at) 0 0xFF j)
+          stored-puts board word xs at m i room a c (free i a b) ∙ default-same xs (i - at) 0 0xFF j)
           (λ c.
           let j : length xs ≤ i - at = omega arith in
-          stored-outside word xs at w′ i room (inr c) ∙ l .values i a b ∙ sym (List·getD-eq-default xs 0xFF j));
-      knows = λ i a b. marks i ∙ l .knows i a b;
-      values-elsewhere = λ i b o. stored-outside word xs at w′ i room (narrow i o) ∙ l .values-elsewhere i b o;
-      knows-elsewhere = λ i b o. marks i ∙ l .knows-elsewhere i b o;
+          stored-outside board word xs at m i room (inr c) ∙ l .values i a b ∙ sym (List·getD-eq-default xs 0xFF j));
+      knows = λ i a b. valued-known m′ w′ i ∙ l .knows i a b;
+      values-elsewhere = λ i o. stored-outside board word xs at m i room (narrow i o) ∙ l .values-elsewhere i o;
+      knows-elsewhere = λ i o. valued-known m′ w′ i ∙ l .knows-elsewhere i o;
     }

@@ -2,31 +2,32 @@
 use mathlib.Core.Bool.{cond}
 use mathlib.Core.List.{List, [], _++_}
 use mathlib.Core.Path.{_≡_}
-use Prim.Native.Nat.{ℕ, _+_, _*_, _%_}
+use Prim.Native.Nat.{ℕ, _+_, _*_}
 use lib.Dec.{eqb}
 use lib.ListN.{length}
 use lib.Seq.{sets}
-use Rattle.board.specs.Layout.{pageBytes, flashBytes, pagesOf}
+use Rattle.board.specs.declared.Board.{Board}
+use Rattle.board.specs.Layout.{pageAddress, pagesOf, pageRest}
 use Rattle.line.specs.Event.{Event}
 use Rattle.text.specs.Text.{textOf}
-use Rattle.plan.specs.Plan.{download, polled, pageAddress, erasePage, setPointer, padded, pageOf, leaving, pagesFrom}
+use Rattle.plan.specs.Plan.{download, polled, erasePage, setPointer, padded, pageOf, leaving, pagesFrom}
 
 -- the lines of an event and of the two GETSTATUS that follow it
 unfoldable pub polledText : Event → List ℕ
 polledText e = textOf (polled e [])
 
 -- the lines of one page
-unfoldable pub pageText : List ℕ → ℕ → List ℕ
-pageText image page =
-    polledText (erasePage (pageAddress page)) ++ polledText (setPointer (pageAddress page)) ++ polledText (download 2 (padded (pageOf image page)))
+unfoldable pub pageText : Board → List ℕ → ℕ → List ℕ
+pageText board image page =
+    polledText (erasePage (pageAddress board page)) ++ polledText (setPointer (pageAddress board page)) ++ polledText (download 2 (padded (pageOf board image page)))
 
 -- the lines of `count` pages from `page` on, and of what comes behind them
-unfoldable pub restText : List ℕ → ℕ → ℕ → List ℕ
-restText image count page = textOf (pagesFrom image count page)
+unfoldable pub restText : Board → List ℕ → ℕ → ℕ → List ℕ
+restText board image count page = textOf (pagesFrom board image count page)
 
 -- the lines behind the last page
-unfoldable pub leavingText : List ℕ
-leavingText = textOf leaving
+unfoldable pub leavingText : Board → List ℕ
+leavingText board = textOf (leaving board)
 
 -- m with lines xs of n bytes over its own from place `at` on is m′, and r is the place behind them
 abbrev pub Laid : List ℕ → ℕ → List ℕ → ℕ → List ℕ → ℕ → Type 0
@@ -49,13 +50,9 @@ unfoldable pub paddedLength : ℕ → ℕ
 paddedLength n = cond (eqb n 1) 2 n
 
 -- how long the lines of a page are
-unfoldable pub pageLines : List ℕ → ℕ → ℕ
-pageLines image page = sentBytes 5 + sentBytes 5 + sentBytes (paddedLength (length (pageOf image page)))
-
--- the most bytes that an image has on a board of any page count, which is a byte
-abbrev pub mostBytes : ℕ
-mostBytes = flashBytes 255
+unfoldable pub pageLines : Board → List ℕ → ℕ → ℕ
+pageLines board image page = sentBytes 5 + sentBytes 5 + sentBytes (paddedLength (length (pageOf board image page)))
 
 -- how long the plan of an image of n bytes is: 200 for the lines of a page without the digits of its bytes, two digits a byte, and the end
-unfoldable pub planBytes : ℕ → ℕ
-planBytes n = pagesOf n * 200 + (n + cond (eqb (n % pageBytes) 1) 1 0) * 2 + leavingBytes
+unfoldable pub planBytes : Board → ℕ → ℕ
+planBytes board n = pagesOf board n * 200 + (n + cond (eqb (pageRest board n) 1) 1 0) * 2 + leavingBytes

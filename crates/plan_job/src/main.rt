@@ -8,7 +8,7 @@ use libc::STDOUT_FILENO;
 use refusal::Done;
 
 // One byte more than an image and a card may have, so that a longer file shows as such.
-const IMAGE_ROOM: usize = Board::LOGGER.pages as usize * Board::PAGE + 1;
+const IMAGE_ROOM: usize = Board::LOGGER_FLASH + 1;
 
 const CARD_ROOM: usize = Board::OPTION_BYTES + 1;
 

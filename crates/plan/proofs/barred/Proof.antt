@@ -9,7 +9,7 @@ locked-requires : tie.Need-locked-requires
 locked-requires c κs = search needs
 
 returns : tie.Need-returns
-returns c = barred-locked _ _ (sym (c .before .locked .ensures) ∙ c .if1 .taken)
+returns c = barred-locked _ _ _ (sym (c .before .locked .ensures) ∙ c .if1 .taken)
 
 word-requires : tie.Need-word-requires
 word-requires c κs = search needs
@@ -21,7 +21,7 @@ any-protected-requires : tie.Need-any-protected-requires
 any-protected-requires c κs = search needs
 
 returns-2 : tie.Need-returns-2
-returns-2 c = barred-pages _ _ _ _ _ (sym (c .before .before .before .before .locked .ensures) ∙ c .before .before .before .if1 .left) (c .before .before .word .ensures) (c .before .pages-of .ensures) (c .any-protected .ensures)
+returns-2 c = barred-pages _ _ _ _ _ _ (sym (c .before .before .before .before .locked .ensures) ∙ c .before .before .before .if1 .left) (c .before .before .word .ensures) (c .before .pages-of .ensures) (c .any-protected .ensures)
 
 pub barred-spec : {M : Type 1} → statement M
 barred-spec =

@@ -1,10 +1,16 @@
 -- `plan::block` meets its contract. Assumes nothing.
 use native.Mathlib.Omega.{arith}
+use Prim.Native.Nat.{_≤_}
+use Rattle.request.specs.Request.{transferBytes}
 use Rattle.plan.proofs.Lines.{padded-at-most}
 use Rattle.plan.proofs.BlockBytes.{block-fits, block-laid}
 use borrow.Author.Needs.{needs}
 use Rattle.plan.proofs.block.Statement.{statement}
 use Rattle.plan.proofs.block.Tie as tie
+
+-- a transfer takes a padded byte
+two : 2 ≤ transferBytes
+two = omega arith
 
 padded-length-requires : tie.Need-padded-length-requires
 padded-length-requires c κs = search needs
@@ -32,7 +38,7 @@ put-requires-2 c κs = search needs
 
 add-send : tie.Need-add-send
 add-send c =
-    let h = padded-at-most _ (c .before .before .before .before .before .before .before .before .before .before .pre .0) in
+    let h = padded-at-most _ _ two (c .before .before .before .before .before .before .before .before .before .before .pre .0) in
     omega arith
 
 sub-send : tie.Need-sub-send
@@ -43,13 +49,13 @@ part-send-start c = search needs
 
 part-send-end : tie.Need-part-send-end
 part-send-end c =
-    let h = padded-at-most _ (c .before .before .before .before .before .before .before .before .before .before .before .pre .0) in
+    let h = padded-at-most _ _ two (c .before .before .before .before .before .before .before .before .before .before .before .pre .0) in
     omega arith
 
 send-requires : tie.Need-send-requires
 send-requires c κs =
     let s = c .before .before .before .before .before .before .before .before .before .before .before .before .before in
-    let h = padded-at-most _ (s .pre .0) in
+    let h = padded-at-most _ _ two (s .pre .0) in
     block-fits (s .args .bytes .now) _ _ _ _ (c .before .before .before .before .before .before .before .before .before .before .padded-length .ensures) (omega arith) (s .pre .1)
 
 same-length : tie.Need-same-length

@@ -6,6 +6,9 @@ use borrow.Author.Needs.{needs}
 use Rattle.plan.proofs.leave.Statement.{statement}
 use Rattle.plan.proofs.leave.Tie as tie
 
+flash-first-requires : tie.Need-flash-first-requires
+flash-first-requires c κs = search needs
+
 command-requires : tie.Need-command-requires
 command-requires c κs = search needs
 
@@ -32,12 +35,14 @@ returns : tie.Need-returns
 returns c =
     let w = c .before .before .before .before .before .before in
     let p = w .before .before .before .before .before in
-    leave-laid _ _ _ _ _ _ _ (omega arith) (p .before .before .before .pre) (p .command .ensures) (w .write-request .ensures) (c .before .before .poll .ensures .0)
+    let f = p .before .before in
+    leave-laid _ _ _ _ _ _ _ _ _ (f .flash-first .ensures) (omega arith) (f .before .before .pre) (p .command .ensures) (w .write-request .ensures) (c .before .before .poll .ensures .0)
 
 pub leave-spec : {M : Type 1} → statement M
 leave-spec =
     tie.close
     (tie.spec
+    flash-first-requires
     command-requires
     slice-aggregate-write-request
     write-request-requires

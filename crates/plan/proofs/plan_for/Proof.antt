@@ -19,7 +19,9 @@ barred-requires : tie.Need-barred-requires
 barred-requires c κs = search needs
 
 size-requires : tie.Need-size-requires
-size-requires c κs = image-fits _ _ _ _ (c .before .before .before .supplied .ensures) (c .before .enum-told .given .1) (omega arith)
+size-requires c κs =
+    let s = c .before .before .before in
+    (s .before .before .before .before .pre, image-fits _ _ _ _ (s .supplied .ensures) (c .before .enum-told .given .1))
 
 returns : tie.Need-returns
 returns c =
@@ -35,7 +37,8 @@ returns-2 c =
 write-requires : tie.Need-write-requires
 write-requires c κs =
     let b = c .before .before .before .before in
-    (image-fits _ _ _ _ (b .before .before .before .supplied .ensures) (b .before .enum-told .given .1) (omega arith), omega arith)
+    let s = b .before .before .before in
+    (s .before .before .before .before .pre, image-fits _ _ _ _ (s .supplied .ensures) (b .before .enum-told .given .1), omega arith)
 
 returns-3 : tie.Need-returns-3
 returns-3 c = plan-refused _ _ _ _ _ (c .before .before .before .supplied .ensures) _ (c .before .supplied2 .given .1)
