@@ -6,8 +6,6 @@ use libc::STDOUT_FILENO;
 use refusal::Refusal;
 use verdict::Verdict;
 
-const FLASH_BYTES: usize = Board::LOGGER.pages as usize * Board::PAGE;
-
 // The arguments of a call that names the file: the program's own name is the first.
 const NAMED: usize = 2;
 
@@ -25,7 +23,7 @@ fn put(image: &[u8]) {
 }
 
 fn make() {
-    let mut image = [0u8; FLASH_BYTES];
+    let mut image = [0u8; Board::LOGGER_FLASH];
     let got = images::hex(
         STDERR_FILENO,
         telling::WORDS,

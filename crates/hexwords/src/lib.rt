@@ -8,33 +8,43 @@ mod given;
 mod lines;
 mod say;
 
+ghost use Prim.Native.Nat.{_≤_};
+use crate::given::Span;
 use board::Board;
 use refusal::Refusal;
 
-// The most bytes of a text that the programs read. An image of all of flash has 245,811 with one byte in a record, CR LF
-// at each end and a start address; the linker's records of 16 bytes make it 45,084.
+// The most bytes of a text that the programs read. An image of all of the logger's flash has 245,811 with one byte in a
+// record, CR LF at each end and a start address; the linker's records of 16 bytes make it 45,084.
 pub const MOST: usize = 262144;
 
-const FLASH: usize = Board::FLASH as usize;
-
-const FLASH_END: usize = FLASH + Board::LOGGER.pages as usize * Board::PAGE;
+// The addresses of the logger's flash.
+fn flash() -> Span
+    ensures { λ r. ⌜ 1 ≤ r .to ⌝ }
+{
+    let from = Board::LOGGER.flash_first() as usize;
+    Span {
+        from,
+        to: from + Board::LOGGER.flash_bytes(),
+    }
+}
 
 // The first address from `from` on that is not in flash.
-fn first_outside(from: usize) -> usize {
-    if from < FLASH {
+fn first_outside(flash: Span, from: usize) -> usize {
+    if from < flash.from {
         return from;
     }
-    if from < FLASH_END { FLASH_END } else { from }
+    if from < flash.to { flash.to } else { from }
 }
 
 fn outside(text: &[u8], line: usize) {
+    let flash = flash();
     say::fill(
         b"Line # of the HEX text gives a byte at @, and flash is @ to @. Link the program for flash, then write its HEX anew.\n",
         &[
             line,
-            first_outside(given::addresses(text, line).from),
-            FLASH,
-            FLASH_END - 1,
+            first_outside(flash, given::addresses(text, line).from),
+            flash.from,
+            flash.to - 1,
         ],
     );
 }

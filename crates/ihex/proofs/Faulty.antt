@@ -17,6 +17,7 @@ use Rattle.refusal.specs.Refusal.{numberOf, lineNamed}
 use Rattle.refusal.specs.Order.{firstOf}
 use Rattle.refusal.proofs.Numbers.{refusal-injective}
 use Rattle.refusal.proofs.First.{by-admission, refused-not, first-here, first-on, first-none}
+use Rattle.board.specs.declared.Board.{Board}
 use Rattle.board.specs.Span.{inFlash}
 use Rattle.record.specs.Record.{recordIn, typeOf, dataOf, goodRecord}
 use Rattle.pieces.specs.Image.{Piece, given}
@@ -29,20 +30,20 @@ same-refusal : (r s : Refusal) → admission.Refused r ≡ admission.Refused s �
 same-refusal r s e = let is : r ≡ s = cc in (ap numberOf is, ap lineNamed is)
 
 -- 21 and 22 are no 20
-piece-no-record : (n a : ℕ) (xs : List ℕ) (ps : List Piece) (m : ℕ) → firstOf (pieceRefusals n a xs ps) ≡ admission.Refused (Record m) → ⊥
-piece-no-record n a xs ps m e =
-    by-bool (not (eqb (length xs) 0) && not (inFlash n a (length xs)))
+piece-no-record : (board : Board) (a : ℕ) (xs : List ℕ) (ps : List Piece) (m : ℕ) → firstOf (pieceRefusals board a xs ps) ≡ admission.Refused (Record m) → ⊥
+piece-no-record board a xs ps m e =
+    by-bool (not (eqb (length xs) 0) && not (inFlash board a (length xs)))
     (λ o. let x = same-refusal Outside (Record m) (sym (first-here _ _ _ o) ∙ e) .0 in omega arith)
     (λ o.
     by-bool (anyFrom (given ps) a (length xs))
     (λ t. let x = same-refusal Twice (Record m) (sym (first-on _ _ _ o ∙ first-here _ _ _ t) ∙ e) .0 in omega arith)
     (λ t. refused-not (Record m) (sym e ∙ first-on _ _ _ o ∙ first-on _ _ _ t ∙ first-none)))
 
-record-no-record : (n upper : ℕ) (ps : List Piece) (r : List ℕ) (m : ℕ) → firstOf (recordRefusals n upper ps r) ≡ admission.Refused (Record m) → ⊥
+record-no-record : (board : Board) (upper : ℕ) (ps : List Piece) (r : List ℕ) (m : ℕ) → firstOf (recordRefusals board upper ps r) ≡ admission.Refused (Record m) → ⊥
 unfolding recordRefusals
-record-no-record n upper ps r m e =
+record-no-record board upper ps r m e =
     by-bool (eqb (typeOf r) 0)
-    (λ t. piece-no-record n (dataAddress upper r) (dataOf r) ps m (rw t at e))
+    (λ t. piece-no-record board (dataAddress upper r) (dataOf r) ps m (rw t at e))
     (λ t. let z : firstOf [] ≡ admission.Refused (Record m) = rw t at e in refused-not (Record m) (sym z ∙ first-none))
 
 -- what an answer says of the line: k is the first line that counts
@@ -57,28 +58,28 @@ names-end k ps [] one =
     (λ p. rw (first-on Unended false ((Empty, none ps) ∷ []) refl ∙ first-on Empty (none ps) [] p ∙ first-none, p))
 names-end k ps (l ∷ ls) one = rw (first-here Unended true ((Empty, none ps) ∷ []) refl) (omega arith, λ z. absurd (omega arith))
 
-names-missing : (n k upper : ℕ) (ps : List Piece) → 1 ≤ k → Names (firstOf (refusalsFrom n k upper ps [])) (faultyFrom n k upper ps [])
+names-missing : (board : Board) (k upper : ℕ) (ps : List Piece) → 1 ≤ k → Names (firstOf (refusalsFrom board k upper ps [])) (faultyFrom board k upper ps [])
 unfolding refusalsFrom faultyFrom
-names-missing n k upper ps one = rw (first-here Unended true [] refl) (one, λ z. absurd (omega arith))
+names-missing board k upper ps one = rw (first-here Unended true [] refl) (one, λ z. absurd (omega arith))
 
 -- of a record alone, no refusal has the number 20
-not-record : (why : Refusal) → numberOf why ≡ 20 → (n upper : ℕ) (ps : List Piece) (r : List ℕ) → firstOf (recordRefusals n upper ps r) ≡ admission.Refused why → ⊥
-not-record why z n upper ps r e = record-no-record n upper ps r (lineNamed why) (e ∙ ap admission.Refused (refusal-injective why (Record (lineNamed why)) z refl))
+not-record : (why : Refusal) → numberOf why ≡ 20 → (board : Board) (upper : ℕ) (ps : List Piece) (r : List ℕ) → firstOf (recordRefusals board upper ps r) ≡ admission.Refused why → ⊥
+not-record why z board upper ps r e = record-no-record board upper ps r (lineNamed why) (e ∙ ap admission.Refused (refusal-injective why (Record (lineNamed why)) z refl))
 
-pub names-from : (n k upper : ℕ) (ps : List Piece) (ls : List (List ℕ)) → 1 ≤ k → Names (firstOf (refusalsFrom n k upper ps ls)) (faultyFrom n k upper ps ls)
-names-from n k upper ps [] one = names-missing n k upper ps one
-names-from n k upper ps (l ∷ ls) one =
+pub names-from : (board : Board) (k upper : ℕ) (ps : List Piece) (ls : List (List ℕ)) → 1 ≤ k → Names (firstOf (refusalsFrom board k upper ps ls)) (faultyFrom board k upper ps ls)
+names-from board k upper ps [] one = names-missing board k upper ps one
+names-from board k upper ps (l ∷ ls) one =
     by-bool (goodRecord l)
     (λ good.
-    by-admission (firstOf (recordRefusals n upper ps (recordIn l)))
+    by-admission (firstOf (recordRefusals board upper ps (recordIn l)))
     (λ own.
     by-bool (ends (recordIn l))
-    (λ e. let p = line-ends n k upper ps l ls good own e in rw (p .0, p .1) (names-end k ps ls one))
+    (λ e. let p = line-ends board k upper ps l ls good own e in rw (p .0, p .1) (names-end k ps ls one))
     (λ e.
-    let p = line-goes-on n k upper ps l ls good own e in
+    let p = line-goes-on board k upper ps l ls good own e in
     let o : 1 ≤ suc k = omega arith in
-    rw (p .0, p .1) (names-from n (suc k) (upperAfter upper (recordIn l)) (givenAfter upper ps (recordIn l)) ls o)))
+    rw (p .0, p .1) (names-from board (suc k) (upperAfter upper (recordIn l)) (givenAfter upper ps (recordIn l)) ls o)))
     (λ why own.
-    let p = line-refused n k upper ps l ls good why own in
-    rw (p .0, p .1) (one, λ z. absurd (not-record why z n upper ps (recordIn l) own))))
-    (λ bad. let p = line-bad n k upper ps l ls bad in rw (p .0, p .1) (one, λ z. refl))
+    let p = line-refused board k upper ps l ls good why own in
+    rw (p .0, p .1) (one, λ z. absurd (not-record why z board upper ps (recordIn l) own))))
+    (λ bad. let p = line-bad board k upper ps l ls bad in rw (p .0, p .1) (one, λ z. refl))

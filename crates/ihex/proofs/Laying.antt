@@ -16,6 +16,7 @@ use Rattle.pieces.specs.Refusals.{withPiece, pieceRefusals}
 use Rattle.pieces.specs.Ways.{Placed}
 use Rattle.ihex.specs.Reading.{dataAddress, upperAfter, givenAfter, recordRefusals}
 use Rattle.ihex.specs.Ways.{RecordPlaced}
+use Rattle.board.specs.declared.Board.{Board}
 
 pub address-is : (upper word : ℕ) (r : List ℕ) → word ≡ getD r 1 0 * 256 + getD r 2 0 → upper * 0x10000 + word ≡ dataAddress upper r
 unfolding dataAddress offsetOf
@@ -35,12 +36,12 @@ data-is r l =
     let e : length r - 1 - 4 ≡ lengthOf r = omega arith in
     ap (λ (k : ℕ). take k (drop 4 r)) e
 
-module _ (n upper : ℕ) (ps : List Piece) (r : List ℕ) where
-  pub no-data : (getD r 3 0 ≡ 0 → ⊥) → (firstOf (recordRefusals n upper ps r) ≡ admission.Admitted) × (givenAfter upper ps r ≡ ps)
+module _ (board : Board) (upper : ℕ) (ps : List Piece) (r : List ℕ) where
+  pub no-data : (getD r 3 0 ≡ 0 → ⊥) → (firstOf (recordRefusals board upper ps r) ≡ admission.Admitted) × (givenAfter upper ps r ≡ ps)
   unfolding recordRefusals givenAfter typeOf
   no-data t = (rw (ne-eqb (getD r 3 0) 0 t) first-none, rw (ne-eqb (getD r 3 0) 0 t))
 
-  pub placed-laid : (d : Done) (a : ℕ) (xs bits image : List ℕ) → getD r 3 0 ≡ 0 → a ≡ dataAddress upper r → xs ≡ dataOf r → Placed n a xs ps bits image d → RecordPlaced n upper ps r bits image d
+  pub placed-laid : (d : Done) (a : ℕ) (xs bits image : List ℕ) → getD r 3 0 ≡ 0 → a ≡ dataAddress upper r → xs ≡ dataOf r → Placed board a xs ps bits image d → RecordPlaced board upper ps r bits image d
   unfolding recordRefusals givenAfter typeOf
   placed-laid (Refused w) a xs bits image t is «data» h = rw (eq-eqb (getD r 3 0) 0 t, ← is, ← «data») h
   placed-laid (Bytes end) a xs bits image t is «data» h = (rw (eq-eqb (getD r 3 0) 0 t, ← is, ← «data») (h .0), rw (eq-eqb (getD r 3 0) 0 t, ← is, ← «data») (h .1))

@@ -2,6 +2,7 @@ pub mod Laying
 pub mod Walking
 pub mod Answers
 pub mod Writing
+pub mod Logger
 pub mod RoundTrip
 pub mod Faulty
 pub mod Order

@@ -1,6 +1,6 @@
 -- Writing an image's text: lengths, one record further, and the parts in their order. Assumes nothing.
 use mathlib.Core.Path.{_≡_, refl, ap, ap₂, _∙_, sym}
-use mathlib.Core.List.{List, [], _∷_, _++_, append-assoc}
+use mathlib.Core.List.{List, [], _++_, append-assoc}
 use Prim.Native.Nat.{ℕ, zero, suc, _+_, _-_, _*_, _/_, _%_, _≤_, _<_}
 use native.Mathlib.Omega.{arith}
 use lib.ListN.{length, take, drop, length-append, length-take, length-drop, take-append-drop, drop-of-length-le}
@@ -11,11 +11,12 @@ use Rattle.laws.proofs.Bytes.{sets-put, put-length, take-at-most}
 use Rattle.laws.proofs.Append.{sets-append, put-behind}
 use Rattle.laws.proofs.Split.{by-lt}
 use Rattle.buffer.specs.Least.{leastOf}
+use Rattle.board.specs.declared.Board.{Board}
 use Rattle.board.specs.Layout.{flashFirst}
 use Rattle.record.specs.Record.{recordOf, recordLine, offsetCount}
 use Rattle.record.proofs.Writing.{line-length-of, record-length-of}
-use Rattle.ihex.specs.Writing.{recordBytes, recordsOf, upperLine, dataLines, endLine, hexText}
-use Rattle.ihex.specs.Ways.{dataText}
+use Rattle.ihex.specs.Writing.{recordBytes, recordsOf, upperHalf, upperLine, dataLines, endLine, hexText}
+use Rattle.ihex.specs.Ways.{OneSegment, dataText, textBytes}
 
 pub written-length : (type offset : ℕ) (xs : List ℕ) → length (recordLine (recordOf type offset xs)) ≡ 12 + length xs * 2
 written-length type offset xs =
@@ -36,29 +37,27 @@ data-length (suc k) offset xs e =
     let l = length-append (recordLine (recordOf 0 offset (take 16 xs))) (dataLines k (offset + 16) (drop 16 xs)) in
     omega arith
 
-pub data-text-length : (xs : List ℕ) → length (dataText xs) ≡ recordsOf (length xs) * 12 + length xs * 2
-unfolding dataText
-data-text-length xs = data-length (recordsOf (length xs)) (flashFirst % offsetCount) xs refl
-
-upper-length : length upperLine ≡ 16
-upper-length = written-length 4 0 (8 ∷ 0 ∷ [])
+upper-length : (board : Board) → length (upperLine board) ≡ 16
+upper-length board = written-length 4 0 (upperHalf board)
 
 end-length : length endLine ≡ 12
 end-length = written-length 1 0 []
 
-pub text-is : (xs : List ℕ) → hexText xs ≡ upperLine ++ (dataText xs ++ endLine)
-unfolding hexText dataText
-text-is xs = refl
-
-pub text-length : (xs : List ℕ) → length (hexText xs) ≡ 28 + recordsOf (length xs) * 12 + length xs * 2
-text-length xs =
-    let d = data-text-length xs in
-    let u = upper-length in
+pub text-length : (board : Board) (xs : List ℕ) → length (hexText board xs) ≡ textBytes (length xs)
+unfolding hexText
+text-length board xs =
+    let lines : List ℕ = dataLines (recordsOf (length xs)) (flashFirst board % offsetCount) xs in
+    let d : length lines ≡ recordsOf (length xs) * 12 + length xs * 2 = data-length (recordsOf (length xs)) (flashFirst board % offsetCount) xs refl in
+    let u = upper-length board in
     let e = end-length in
-    let a = length-append upperLine (dataText xs ++ endLine) in
-    let b = length-append (dataText xs) endLine in
-    let t = ap length (text-is xs) in
+    let a = length-append (upperLine board) (lines ++ endLine) in
+    let b = length-append lines endLine in
     omega arith
+
+-- on such a board the data begin at offset 0
+pub text-is : (board : Board) → OneSegment board → (xs : List ℕ) → hexText board xs ≡ upperLine board ++ (dataText xs ++ endLine)
+unfolding hexText dataText
+text-is board one xs = rw (one .begins)
 
 -- what is left of the data from a place on
 unfoldable pub left : List ℕ → ℕ → List ℕ
@@ -135,40 +134,44 @@ data-laid xs out out₀ from to at over room laid total =
     let z : to + 0 ≡ at + length (dataText xs) = ap (λ (l : List ℕ). to + length l) (sym e) ∙ total in
     (ap (sets out to) (sym e) ∙ laid ∙ sets-put (dataText xs) out₀ at room, omega arith)
 
--- the three parts of a text in out, one behind the other
-module _ (xs out : List ℕ) (room : length (hexText xs) ≤ length out) where
+-- the three parts of a text in out, one behind the other; the line of the upper half as the code makes it
+module _ (board : Board) (one : OneSegment board) (xs out : List ℕ) (room : length (hexText board xs) ≤ length out) (upper : List ℕ) (is : upper ≡ upperLine board) where
+  upper-size : length upper ≡ 16
+  upper-size = ap length is ∙ upper-length board
+
   total : 28 + length (dataText xs) ≤ length out
-  total = let t = text-length xs in let d = data-text-length xs in omega arith
+  unfolding dataText
+  total = let t = text-length board xs in let d = data-length (recordsOf (length xs)) 0 xs refl in omega arith
 
-  pub upper-room : 0 + length upperLine ≤ length out
-  upper-room = let t = total in let u = upper-length in omega arith
+  pub upper-room : 0 + length upper ≤ length out
+  upper-room = let t = total in let u = upper-size in omega arith
 
-  module _ (o₁ : List ℕ) (a : ℕ) (one : o₁ ≡ put 0 upperLine out) (after : a ≡ length upperLine) where
+  module _ (o₁ : List ℕ) (a : ℕ) (first : o₁ ≡ put 0 upper out) (after : a ≡ length upper) where
     first-kept : length o₁ ≡ length out
-    first-kept = ap length one ∙ put-length 0 upperLine out upper-room
+    first-kept = ap length first ∙ put-length 0 upper out upper-room
 
     pub data-room : a + length (dataText xs) ≤ length o₁
-    data-room = let t = total in let u = upper-length in let k = first-kept in omega arith
+    data-room = let t = total in let u = upper-size in let k = first-kept in omega arith
 
     module _ (o₂ : List ℕ) (b : ℕ) (two : o₂ ≡ put a (dataText xs) o₁) (behind : b ≡ a + length (dataText xs)) where
       second-kept : length o₂ ≡ length out
       second-kept = ap length two ∙ put-length a (dataText xs) o₁ data-room ∙ first-kept
 
       pub end-room : b + length endLine ≤ length o₂
-      end-room = let t = total in let u = upper-length in let e = end-length in let k = second-kept in omega arith
+      end-room = let t = total in let u = upper-size in let e = end-length in let k = second-kept in omega arith
 
-      pub text-laid : (o₃ : List ℕ) → o₃ ≡ put b endLine o₂ → o₃ ≡ put 0 (hexText xs) out
+      pub text-laid : (o₃ : List ℕ) → o₃ ≡ put b endLine o₂ → o₃ ≡ put 0 (hexText board xs) out
       text-laid o₃ three =
-          let u = upper-length in
+          let u = upper-size in
           let e = end-length in
           let t = total in
-          let l = length-append upperLine (dataText xs) in
-          let j₁ : a ≡ 0 + length upperLine = omega arith in
+          let l = length-append upper (dataText xs) in
+          let j₁ : a ≡ 0 + length upper = omega arith in
           let r₁ : a + length (dataText xs) ≤ length out = omega arith in
-          let both : o₂ ≡ put 0 (upperLine ++ dataText xs) out = two ∙ ap (put a (dataText xs)) one ∙ put-behind 0 a upperLine (dataText xs) out j₁ r₁ in
-          let j₂ : b ≡ 0 + length (upperLine ++ dataText xs) = omega arith in
+          let both : o₂ ≡ put 0 (upper ++ dataText xs) out = two ∙ ap (put a (dataText xs)) first ∙ put-behind 0 a upper (dataText xs) out j₁ r₁ in
+          let j₂ : b ≡ 0 + length (upper ++ dataText xs) = omega arith in
           let r₂ : b + length endLine ≤ length out = omega arith in
           three
           ∙ ap (put b endLine) both
-          ∙ put-behind 0 b (upperLine ++ dataText xs) endLine out j₂ r₂
-          ∙ ap (λ (x : List ℕ). put 0 x out) (append-assoc upperLine (dataText xs) endLine ∙ sym (text-is xs))
+          ∙ put-behind 0 b (upper ++ dataText xs) endLine out j₂ r₂
+          ∙ ap (λ (x : List ℕ). put 0 x out) (append-assoc upper (dataText xs) endLine ∙ ap (λ (u : List ℕ). u ++ (dataText xs ++ endLine)) is ∙ sym (text-is board one xs))

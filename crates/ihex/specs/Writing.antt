@@ -6,6 +6,7 @@ use lib.ListN.{length, take, drop}
 use Rattle.refusal.specs.declared.Refusal.{Refusal}
 use Rattle.refusal.specs.declared.Refusal.the-variants.{Image}
 use Rattle.refusal.specs.Delivery.{Delivery, delivered}
+use Rattle.board.specs.declared.Board.{Board}
 use Rattle.board.specs.Layout.{flashFirst}
 use Rattle.board.specs.Supply.{unfit}
 use Rattle.record.specs.Record.{offsetCount, recordOf, recordLine}
@@ -18,9 +19,13 @@ recordBytes = 16
 abbrev pub recordsOf : ℕ → ℕ
 recordsOf count = (count + (recordBytes - 1)) / recordBytes
 
--- "a 04 record": the upper half of the first flash address
-abbrev pub upperLine : List ℕ
-upperLine = recordLine (recordOf 4 0 (flashFirst / offsetCount / 256 ∷ flashFirst / offsetCount % 256 ∷ []))
+-- the upper half of the first flash address, in two bytes
+abbrev pub upperHalf : Board → List ℕ
+upperHalf board = flashFirst board / offsetCount / 256 ∷ flashFirst board / offsetCount % 256 ∷ []
+
+-- "a 04 record"
+abbrev pub upperLine : Board → List ℕ
+upperLine board = recordLine (recordOf 4 0 (upperHalf board))
 
 -- so many data records, from an offset on
 unfoldable pub dataLines : ℕ → ℕ → List ℕ → List ℕ
@@ -31,14 +36,14 @@ dataLines (suc k) offset xs = recordLine (recordOf 0 offset (take recordBytes xs
 abbrev pub endLine : List ℕ
 endLine = recordLine (recordOf 1 0 [])
 
--- the text of an image
-unfoldable pub hexText : List ℕ → List ℕ
-hexText xs = upperLine ++ (dataLines (recordsOf (length xs)) (flashFirst % offsetCount) xs ++ endLine)
+-- the text of an image, for a board
+unfoldable pub hexText : Board → List ℕ → List ℕ
+hexText board xs = upperLine board ++ (dataLines (recordsOf (length xs)) (flashFirst board % offsetCount) xs ++ endLine)
 
 -- "the writer gives 7"
-abbrev pub hexWriteRefusals : ℕ → List ℕ → List (Refusal × Bool)
-hexWriteRefusals n xs = (Image, unfit n (length xs)) ∷ []
+abbrev pub hexWriteRefusals : Board → List ℕ → List (Refusal × Bool)
+hexWriteRefusals board xs = (Image, unfit board (length xs)) ∷ []
 
 -- the writer: 7, 11
-unfoldable pub hexWritten : ℕ → List ℕ → List ℕ → Delivery
-hexWritten n xs out = delivered (hexWriteRefusals n xs) (hexText xs) out
+unfoldable pub hexWritten : Board → List ℕ → List ℕ → Delivery
+hexWritten board xs out = delivered (hexWriteRefusals board xs) (hexText board xs) out

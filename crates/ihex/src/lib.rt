@@ -8,18 +8,16 @@ ghost use mathlib.Core.List.{[]};
 ghost use Prim.Native.Nat.{_+_, _*_, _^_, _≤_, _<_};
 ghost use lib.ListN.{length};
 ghost use Rattle.laws.specs.Bytes.{put};
-ghost use Rattle.board.specs.Layout.{loggerPages, flashBytes};
+ghost use Rattle.board.specs.Layout.{logger, flashBytes};
 ghost use Rattle.refusal.specs.Delivery.{delivery};
 ghost use Rattle.record.specs.Record.{lengthOf, sound, offsetCount};
 ghost use Rattle.pieces.specs.Ways.{Holds};
 ghost use Rattle.ihex.specs.Reading.{dataAddress, upperAfter, hexRead, faultyLine};
 ghost use Rattle.ihex.specs.Writing.{hexText, hexWritten};
-ghost use Rattle.ihex.specs.Ways.{RecordPlaces, stoppedOf, endedOf, Walks, dataText};
+ghost use Rattle.ihex.specs.Ways.{RecordPlaces, stoppedOf, endedOf, Walks, OneSegment, dataText, textBytes};
 
-// The bytes of the logger's flash, and a bit for each of them.
-const FLASH_BYTES: usize = Board::LOGGER.pages as usize * Board::PAGE;
-
-const MARKS: usize = FLASH_BYTES / 8;
+// A bit for each byte of the logger's flash.
+const MARKS: usize = (Board::LOGGER_FLASH + 7) / 8;
 
 // What an image has where nothing is given.
 const GAP: u8 = 0xFF;
@@ -32,8 +30,8 @@ const OUTER: usize = record::LINE * 2 + record::UPPER_BYTES as usize * 2;
 
 // The longest text of an image that is written.
 pub const LONGEST: usize = OUTER
-    + (FLASH_BYTES + (RECORD - 1)) / RECORD * record::LINE
-    + FLASH_BYTES * 2;
+    + (Board::LOGGER_FLASH + (RECORD - 1)) / RECORD * record::LINE
+    + Board::LOGGER_FLASH * 2;
 
 // The end of a walk over a text: how long its image is, or why it has none; and the line at fault, or 0.
 pub struct Walked {
@@ -60,7 +58,7 @@ fn upper_after(upper: u32, record: &[u8]) -> u32
     upper
 }
 
-// RecordPlaces the data of a record, and gives where the image ends then; or refuses, and lays none.
+// Lays the data of a record, and gives where the image ends then; or refuses, and lays none.
 fn lay(
     board: Board,
     upper: u32,
@@ -69,8 +67,8 @@ fn lay(
     given: &mut [u8],
     image: &mut [u8],
 ) -> Done
-    requires { ⌜ (length (now «record») ≡ 5 + lengthOf (now «record»)) × (flashBytes (board .pages) ≤ length (now given) * 8) × (length (now image) ≡ flashBytes (board .pages)) ⌝ }
-    ensures { λ r. ⌜ RecordPlaces (board .pages) upper (now («record» .entry)) end (now (given .entry)) (now (image .entry)) (now (given .exit)) (now (image .exit)) r ⌝ }
+    requires { ⌜ (length (now «record») ≡ 5 + lengthOf (now «record»)) × (flashBytes board ≤ length (now given) * 8) × (length (now image) ≡ flashBytes board) ⌝ }
+    ensures { λ r. ⌜ RecordPlaces board upper (now («record» .entry)) end (now (given .entry)) (now (image .entry)) (now (given .exit)) (now (image .exit)) r ⌝ }
 {
     if record[3] != record::DATA {
         return Done::Bytes(end);
@@ -108,8 +106,8 @@ fn ended(left: usize, end: usize, number: usize) -> Walked
 
 // Walks over a text, line by line, and lays its data into the image; `given` has a bit for each byte that was.
 fn walk(board: Board, text: &[u8], record: &mut [u8], given: &mut [u8], image: &mut [u8]) -> Walked
-    requires { ⌜ (260 ≤ length (now «record»)) × Holds (board .pages) [] (now given) (now image) 0 ⌝ }
-    ensures { λ r. ⌜ Walks (board .pages) (now (text .entry)) r (now (image .exit)) ⌝ }
+    requires { ⌜ (260 ≤ length (now «record»)) × Holds board [] (now given) (now image) 0 ⌝ }
+    ensures { λ r. ⌜ Walks board (now (text .entry)) r (now (image .exit)) ⌝ }
 {
     let mut at = 0;
     let mut number = 1;
@@ -142,11 +140,11 @@ fn walk(board: Board, text: &[u8], record: &mut [u8], given: &mut [u8], image: &
 
 // Reads a HEX text: its image goes to the front of `out`.
 pub fn read(text: &[u8], out: &mut [u8]) -> Done
-    ensures { λ r. ⌜ delivery r (now (out .exit)) ≡ hexRead loggerPages (now (text .entry)) (now (out .entry)) ⌝ }
+    ensures { λ r. ⌜ delivery r (now (out .exit)) ≡ hexRead logger (now (text .entry)) (now (out .entry)) ⌝ }
 {
     let mut record = [0u8; record::ROOM];
     let mut given = [0u8; MARKS];
-    let mut image = [GAP; FLASH_BYTES];
+    let mut image = [GAP; Board::LOGGER_FLASH];
     let walked = walk(Board::LOGGER, text, &mut record, &mut given, &mut image);
     let done = walked.done;
     match done {
@@ -164,18 +162,18 @@ pub fn read(text: &[u8], out: &mut [u8]) -> Done
 // The number of a text's first faulty line, from 1, or 0 where it has none. Where the end record is missing, it is that
 // of the line behind the last.
 pub fn faulty_line(text: &[u8]) -> usize
-    ensures { λ r. ⌜ r ≡ faultyLine loggerPages (now (text .entry)) ⌝ }
+    ensures { λ r. ⌜ r ≡ faultyLine logger (now (text .entry)) ⌝ }
 {
     let mut record = [0u8; record::ROOM];
     let mut given = [0u8; MARKS];
-    let mut image = [GAP; FLASH_BYTES];
+    let mut image = [GAP; Board::LOGGER_FLASH];
     walk(Board::LOGGER, text, &mut record, &mut given, &mut image).line
 }
 
 // How long the text of an image is: the two lines around the data, and for each record of them its frame.
 fn text_size(image: &[u8]) -> usize
     requires { ⌜ length (now image) ≤ offsetCount ⌝ }
-    ensures { λ r. ⌜ r ≡ length (hexText (now (image .entry))) ⌝ }
+    ensures { λ r. ⌜ r ≡ textBytes (length (now (image .entry))) ⌝ }
 {
     OUTER + (image.len() + (RECORD - 1)) / RECORD * record::LINE + image.len() * 2
 }
@@ -196,14 +194,12 @@ fn write_data(image: &[u8], out: &mut [u8], at: usize) -> usize
 }
 
 // Writes the text of an image to the front of `out`.
-fn spell(image: &[u8], out: &mut [u8])
-    requires { ⌜ (length (now image) ≤ offsetCount) × (length (hexText (now image)) ≤ length (now out)) ⌝ }
-    ensures { λ _. ⌜ now (out .exit) ≡ put 0 (hexText (now (image .entry))) (now (out .entry)) ⌝ }
+fn spell(board: Board, image: &[u8], out: &mut [u8])
+    requires { ⌜ OneSegment board × (length (now image) ≤ offsetCount) × (length (hexText board (now image)) ≤ length (now out)) ⌝ }
+    ensures { λ _. ⌜ now (out .exit) ≡ put 0 (hexText board (now (image .entry))) (now (out .entry)) ⌝ }
 {
-    let upper = [
-        (Board::FLASH / 0x100_0000) as u8,
-        (Board::FLASH / 0x1_0000 % 256) as u8,
-    ];
+    let half = board.flash_first() / 0x1_0000;
+    let upper = [(half / 256) as u8, (half % 256) as u8];
     let first = record::write(record::UPPER, 0, &upper, out, 0);
     let last = write_data(image, out, first);
     record::write(record::END, 0, b"", out, last);
@@ -211,8 +207,8 @@ fn spell(image: &[u8], out: &mut [u8])
 
 // Writes an image as HEX for a board.
 fn write_for(board: Board, image: &[u8], out: &mut [u8]) -> Done
-    requires { ⌜ flashBytes (board .pages) ≤ offsetCount ⌝ }
-    ensures { λ r. ⌜ delivery r (now (out .exit)) ≡ hexWritten (board .pages) (now (image .entry)) (now (out .entry)) ⌝ }
+    requires { ⌜ OneSegment board ⌝ }
+    ensures { λ r. ⌜ delivery r (now (out .exit)) ≡ hexWritten board (now (image .entry)) (now (out .entry)) ⌝ }
 {
     if board.unfit(image.len()) {
         return Done::Refused(Refusal::Image);
@@ -221,13 +217,13 @@ fn write_for(board: Board, image: &[u8], out: &mut [u8]) -> Done
     if out.len() < size {
         return Done::Refused(Refusal::Output);
     }
-    spell(image, out);
+    spell(board, image, out);
     Done::Bytes(size)
 }
 
 // Writes an image as HEX to the front of `out`.
 pub fn write(image: &[u8], out: &mut [u8]) -> Done
-    ensures { λ r. ⌜ delivery r (now (out .exit)) ≡ hexWritten loggerPages (now (image .entry)) (now (out .entry)) ⌝ }
+    ensures { λ r. ⌜ delivery r (now (out .exit)) ≡ hexWritten logger (now (image .entry)) (now (out .entry)) ⌝ }
 {
     write_for(Board::LOGGER, image, out)
 }

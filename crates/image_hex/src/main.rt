@@ -8,7 +8,7 @@ use refusal::Refusal;
 use verdict::Verdict;
 
 // One byte more than an image may have, so that a longer file shows as such.
-const IMAGE_ROOM: usize = Board::LOGGER.pages as usize * Board::PAGE + 1;
+const IMAGE_ROOM: usize = Board::LOGGER_FLASH + 1;
 
 // Room for a sentence.
 const ROOM: usize = 512;
@@ -16,11 +16,11 @@ const ROOM: usize = 512;
 // The arguments of a call that names the file: the program's own name is the first.
 const NAMED: usize = 2;
 
-// The line that names a refusal, and a sentence for people with a number that picks its words.
-fn refuse(why: Refusal, template: &[u8], number: usize) {
+// The line that names a refusal, and a sentence for people with its numbers.
+fn refuse(why: Refusal, template: &[u8], numbers: &[usize]) {
     telling::line(STDERR_FILENO, Verdict::Refused(why));
     let mut room = [0u8; ROOM];
-    let count = sentence::fill(template, &[number], b"", &mut room, 0);
+    let count = sentence::fill(template, numbers, b"", &mut room, 0);
     files::write(STDERR_FILENO, &room, count);
 }
 
@@ -32,8 +32,8 @@ fn perform(image: &[u8]) {
         Done::Bytes(size) => files::write(STDOUT_FILENO, &text, size),
         Done::Refused(why) => refuse(
             why,
-            b"The image [is empty|has more bytes than the flash]. Give an image of 1 to 16384 bytes.\n",
-            image.len(),
+            b"The image [is empty|has more bytes than the flash]. Give an image of 1 to # bytes.\n",
+            &[image.len(), Board::LOGGER_FLASH],
         ),
     }
 }
@@ -62,6 +62,6 @@ fn main() {
     refuse(
         Refusal::File,
         b"Name one file, the image, or none to take image.bin in this folder.\n",
-        0,
+        &[0],
     );
 }

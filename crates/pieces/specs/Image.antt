@@ -5,6 +5,7 @@ use Prim.Native.Nat.{ℕ, zero, suc, _+_, _-_}
 use lib.Dec.{ltb}
 use lib.ListN.{length, getD}
 use Rattle.bits.specs.Bits.{within}
+use Rattle.board.specs.declared.Board.{Board}
 use Rattle.board.specs.Layout.{flashFirst}
 
 -- what a data record gives: the address of its first byte, and its bytes
@@ -30,10 +31,10 @@ byteAt (p ∷ ps) a = cond (gives p a) (getD (p .bytes) (a - p .address) 0) (byt
 abbrev pub larger : ℕ → ℕ → ℕ
 larger a b = cond (ltb a b) b a
 
--- the address behind "the highest byte given"
-unfoldable pub reach : List Piece → ℕ
-reach [] = flashFirst
-reach (p ∷ ps) = larger (reach ps) (p .address + length (p .bytes))
+-- the address behind "the highest byte given"; the first flash address where none is
+unfoldable pub reach : Board → List Piece → ℕ
+reach board [] = flashFirst board
+reach board (p ∷ ps) = larger (reach board ps) (p .address + length (p .bytes))
 
 -- the bytes at `count` addresses
 unfoldable pub bytesFrom : List Piece → ℕ → ℕ → List ℕ
@@ -41,5 +42,5 @@ bytesFrom ps a zero = []
 bytesFrom ps a (suc count) = byteAt ps a ∷ bytesFrom ps (suc a) count
 
 -- "lay the data into an image buffer": from the first flash address on; "The image length runs to the highest byte given"
-unfoldable pub imageOf : List Piece → List ℕ
-imageOf ps = bytesFrom ps flashFirst (reach ps - flashFirst)
+unfoldable pub imageOf : Board → List Piece → List ℕ
+imageOf board ps = bytesFrom ps (flashFirst board) (reach board ps - flashFirst board)

@@ -7,6 +7,7 @@ use lib.ListN.{length}
 use Rattle.bits.specs.Bits.{anyFrom}
 use Rattle.refusal.specs.declared.Refusal.{Refusal}
 use Rattle.refusal.specs.declared.Refusal.the-variants.{Outside, Twice}
+use Rattle.board.specs.declared.Board.{Board}
 use Rattle.board.specs.Span.{inFlash}
 use Rattle.pieces.specs.Image.{Piece, given}
 
@@ -20,8 +21,8 @@ unfoldable pub withPiece : ℕ → List ℕ → List Piece → List Piece
 withPiece a xs ps = cond (eqb (length xs) 0) ps (record { address = a; bytes = xs } ∷ ps)
 
 -- "a data byte outside flash 21; a byte given twice 22"
-abbrev pub pieceRefusals : ℕ → ℕ → List ℕ → List Piece → List (Refusal × Bool)
-pieceRefusals n a xs ps =
-    (Outside, not (eqb (length xs) 0) && not (inFlash n a (length xs)))
+abbrev pub pieceRefusals : Board → ℕ → List ℕ → List Piece → List (Refusal × Bool)
+pieceRefusals board a xs ps =
+    (Outside, not (eqb (length xs) 0) && not (inFlash board a (length xs)))
     ∷ (Twice, anyFrom (given ps) a (length xs))
     ∷ []

@@ -16,7 +16,7 @@ fn larger(a: usize, b: usize) -> usize
     if a < b { b } else { a }
 }
 
-// RecordPlaces bytes from an address on, and gives where the image ends then; or refuses, and lays none.
+// Lays bytes from an address on, and gives where the image ends then; or refuses, and lays none.
 pub fn place(
     board: Board,
     address: u64,
@@ -25,8 +25,8 @@ pub fn place(
     given: &mut [u8],
     image: &mut [u8],
 ) -> Done
-    requires { ⌜ (flashBytes (board .pages) ≤ length (now given) * 8) × (length (now image) ≡ flashBytes (board .pages)) ⌝ }
-    ensures { λ r. ⌜ Placing (board .pages) address (now (bytes .entry)) end (now (given .entry)) (now (image .entry)) (now (given .exit)) (now (image .exit)) r ⌝ }
+    requires { ⌜ (flashBytes board ≤ length (now given) * 8) × (length (now image) ≡ flashBytes board) ⌝ }
+    ensures { λ r. ⌜ Placing board address (now (bytes .entry)) end (now (given .entry)) (now (image .entry)) (now (given .exit)) (now (image .exit)) r ⌝ }
 {
     if bytes.len() == 0 {
         return Done::Bytes(end);
@@ -34,7 +34,7 @@ pub fn place(
     if !board.in_flash(address, bytes.len() as u64) {
         return Done::Refused(Refusal::Outside);
     }
-    let from = (address - Board::FLASH as u64) as usize;
+    let from = (address - board.flash_first() as u64) as usize;
     let to = from + bytes.len();
     if !bits::mark(given, from, to) {
         return Done::Refused(Refusal::Twice);

@@ -12,7 +12,7 @@ shared-slice-read-if1 c = search needs
 returns : tie.Need-returns
 returns c =
     let s = c .before .before .before .before .before in
-    λ ps h. let p = no-data (s .args .board .pages) (s .args .upper) ps (s .args .«record» .now) (c .if1 .taken) in (p .0, rw (p .1) h)
+    λ ps h. let p = no-data (s .args .board) (s .args .upper) ps (s .args .«record» .now) (c .if1 .taken) in (p .0, rw (p .1) h)
 
 address-requires : tie.Need-address-requires
 address-requires c κs = search needs
@@ -41,7 +41,7 @@ same-length-2 c = search needs
 returns-2 : tie.Need-returns-2
 returns-2 c =
     let s = c .before .before .before .before .before .before .before .before .before .before .before .before .before .before in
-    λ ps h. placed-laid (s .args .board .pages) (s .args .upper) ps (s .args .«record» .now) (c .before .before .before .before .place .result) _ _ _ _ (c .before .before .before .before .before .before .before .before .before .if1 .left) (c .before .before .before .before .before .before .before .before .address .ensures) (data-is _ (s .pre .0)) (placing-places _ _ _ _ _ _ _ _ _ (c .before .before .before .before .place .ensures) ps h)
+    λ ps h. placed-laid (s .args .board) (s .args .upper) ps (s .args .«record» .now) (c .before .before .before .before .place .result) _ _ _ _ (c .before .before .before .before .before .before .before .before .before .if1 .left) (c .before .before .before .before .before .before .before .before .address .ensures) (data-is _ (s .pre .0)) (placing-places _ _ _ _ _ _ _ _ _ (c .before .before .before .before .place .ensures) ps h)
 
 pub lay-spec : {M : Type 1} → statement M
 lay-spec =

@@ -1,5 +1,7 @@
 -- `ihex::read` meets its contract. Assumes nothing.
+use Prim.Native.Nat.{_+_, _/_}
 use native.Mathlib.Omega.{arith}
+use Rattle.board.specs.Layout.{logger, flashPages, pageBytes, pageOffset, flashBytes}
 use Rattle.pieces.proofs.Images.{holds-none}
 use mathlib.Core.Path.{refl}
 use Rattle.ihex.proofs.Answers.{walked-refused, walked-within, walked-short, walked-read}
@@ -17,7 +19,8 @@ slice-aggregate-walk-3 : tie.Need-slice-aggregate-walk-3
 slice-aggregate-walk-3 c = search needs
 
 walk-requires : tie.Need-walk-requires
-walk-requires c κs = (omega arith, holds-none 16 2048 _ _ refl refl (omega arith))
+unfolding flashBytes pageOffset flashPages pageBytes
+walk-requires c κs = (omega arith, holds-none logger ((flashBytes logger + 7) / 8) _ _ refl refl (omega arith))
 
 enum-known-done : tie.Need-enum-known-done
 enum-known-done c = search needs

@@ -1,6 +1,4 @@
 -- `ihex::text_size` meets its contract. Assumes nothing.
-use Rattle.ihex.proofs.Writing.{text-length}
-use mathlib.Core.Path.{sym}
 use borrow.Author.Needs.{needs}
 use Rattle.ihex.proofs.text_size.Statement.{statement}
 use Rattle.ihex.proofs.text_size.Tie as tie
@@ -24,7 +22,7 @@ add-result-3 : tie.Need-add-result-3
 add-result-3 c = search needs
 
 returns : tie.Need-returns
-returns c = sym (text-length _)
+returns c = search needs
 
 pub text-size-spec : {M : Type 1} → statement M
 text-size-spec =

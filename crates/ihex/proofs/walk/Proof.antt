@@ -12,7 +12,7 @@ use Rattle.ihex.proofs.walk.Statement.{statement}
 use Rattle.ihex.proofs.walk.Tie as tie
 
 abbrev Inv-loop : tie.InvT-loop
-Inv-loop board text record₀ given₀ image₀ at₀ number₀ upper₀ end₀ «record» given image at number upper end = ((ps : List Piece) × Sofar (board .pages) text at number upper end given image ps) × (length «record» ≡ length record₀) × (length given ≡ length given₀) × (length image ≡ length image₀)
+Inv-loop board text record₀ given₀ image₀ at₀ number₀ upper₀ end₀ «record» given image at number upper end = ((ps : List Piece) × Sofar board text at number upper end given image ps) × (length «record» ≡ length record₀) × (length given ≡ length given₀) × (length image ≡ length image₀)
 
 abbrev μ-loop : tie.MeasureT-loop
 μ-loop board text record₀ given₀ image₀ at₀ number₀ upper₀ end₀ «record» given image at number upper end = length text - at
