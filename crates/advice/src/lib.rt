@@ -45,8 +45,8 @@ fn failed(line: usize, packed: &[u8], card: &[u8]) {
 fn ended(condition: u8, packed: &[u8], card: &[u8]) {
     let all = packed.len();
     let scene = trial::run(packed, all, card, 0, 0);
-    let number = buffer::least(scene.altered, trial::OPTIONS);
-    let place = trial::OPTIONS_AT + number;
+    let number = buffer::least(scene.altered, Board::OPTION_BYTES);
+    let place = Board::LOGGER.options_from() + number;
     let option = trial::run(packed, all, card, 0, place);
     let cause = trial::run(packed, before(option.changed), card, 0, place);
     let found = Altered {
@@ -74,15 +74,20 @@ fn wanted(offset: usize, image: &[u8]) -> u8 {
     0xFF
 }
 
-// Where an offset lies: 0 in an image of this size, 1 behind it in its last page, 2 in a page that it does not reach.
-fn side(offset: usize, size: usize) -> usize {
-    if offset < size {
+// Where an offset in this page lies: 0 in the image, 1 behind it in its last page, 2 in a page that it does not reach.
+fn side(offset: usize, page: usize, image: &[u8]) -> usize {
+    if offset < image.len() {
         return 0;
     }
-    if size % Board::PAGE != 0 && offset / Board::PAGE == size / Board::PAGE {
+    if page < Board::LOGGER.pages_of(image) {
         return 1;
     }
     2
+}
+
+// The place in memory of an offset in flash.
+fn place_of(offset: usize) -> usize {
+    Board::LOGGER.flash_from() + buffer::least(offset, Board::LOGGER.flash_bytes())
 }
 
 // Of the last two lines that changed a byte, the one that is at fault: the last or, behind the image, where that one
@@ -101,27 +106,24 @@ fn doer(side: usize, changed: usize, earlier: usize, last: Device) -> usize {
 // The byte that differs, on two boards, and what did something to it.
 fn differs(offset: usize, packed: &[u8], image: &[u8], card: &[u8]) {
     let all = packed.len();
-    let page = offset / Board::PAGE;
-    let side = side(offset, image.len());
-    let zero = trial::run(packed, all, card, 0, offset);
-    let erased = trial::run(packed, all, card, 0xFF, offset);
-    let guard = trial::run(
-        packed,
-        all,
-        card,
-        0,
-        trial::OPTIONS_AT + protection::option_of(page),
-    );
-    let last = trial::run(packed, before(zero.changed), card, 0, offset);
+    let board = Board::LOGGER;
+    let place = place_of(offset);
+    let page = board.page_at(place);
+    let side = side(offset, page, image);
+    let option = board.options_from() + protection::option_of(board, page);
+    let zero = trial::run(packed, all, card, 0, place);
+    let erased = trial::run(packed, all, card, 0xFF, place);
+    let guard = trial::run(packed, all, card, 0, option);
+    let last = trial::run(packed, before(zero.changed), card, 0, place);
     let line = doer(side, zero.changed, zero.earlier, last.device);
-    let cause = trial::run(packed, before(line), card, 0, offset);
+    let cause = trial::run(packed, before(line), card, 0, place);
     let found = Found {
-        offset,
+        place,
         side,
         zero: zero.byte,
         erased: erased.byte,
         want: wanted(offset, image),
-        is_locked: protection::write_protected(protection::word(card, 0), page),
+        is_locked: protection::write_protected(protection::word(board, card, 0), page),
         line: guard.changed,
     };
     flash::wrong(found, line, cause.device);

@@ -8,17 +8,15 @@ use refusal::Refusal;
 use request::Setup;
 use verdict::Verdict;
 
-const FLASH: usize = Board::LOGGER.pages as usize * Board::PAGE;
-
 // A byte more than the longest job, image and card.
 const JOB_ROOM: usize = text::LIMIT + 1;
 
-const IMAGE_ROOM: usize = FLASH + 1;
+const IMAGE_ROOM: usize = Board::LOGGER_FLASH + 1;
 
 const CARD_ROOM: usize = Board::OPTION_BYTES + 1;
 
 // The checker's work area has two bytes for each of the memory, and a block.
-const WORK: usize = 2 * (FLASH + Board::RAM_BYTES + Board::OPTION_BYTES) + Setup::TRANSFER as usize;
+const WORK: usize = 2 * Board::LOGGER_MEMORY + Setup::TRANSFER as usize;
 
 // The arguments of a call that names all three files: the program's own name is the first. With a word behind them
 // there is one more, at this place.

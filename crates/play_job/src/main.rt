@@ -7,6 +7,7 @@ mod event;
 mod play;
 mod refuse;
 
+use board::Board;
 use libc::STDOUT_FILENO;
 use refusal::Done;
 use refusal::Refusal;
@@ -14,7 +15,7 @@ use refusal::Refusal;
 // One byte more than a job and a board may have, so that a longer file shows as such.
 const TEXT_ROOM: usize = text::LIMIT + 1;
 
-const BOARD_ROOM: usize = change::MEMORY + 1;
+const BOARD_ROOM: usize = Board::LOGGER_MEMORY + 1;
 
 // A packed event has at most half the bytes of its line.
 const PACKED_ROOM: usize = text::LIMIT / 2;
@@ -32,7 +33,8 @@ fn perform(text: &[u8], board: &[u8]) {
         },
         Done::Refused(why) => refuse::say(
             why,
-            b"[The job has more than 60000 bytes. Take out lines that it does not need.|Line # of the job is malformed. Correct it: a line is A, or Q, a tab, 16 digits, a tab and the data, with as many bytes as the setup asks for, in hexadecimal of either case, and ends with LF alone; A and Q are capitals.]\n",
+            b"[The job has more than # bytes. Take out lines that it does not need.|Line # of the job is malformed. Correct it: a line is A, or Q, a tab, 16 digits, a tab and the data, with as many bytes as the setup asks for, in hexadecimal of either case, and ends with LF alone; A and Q are capitals.]\n",
+            &[why.line(), text::LIMIT, why.line()],
         ),
     }
 }
@@ -74,5 +76,6 @@ fn main() {
     refuse::say(
         Refusal::File,
         b"Name two files, the job and the board, or none to take job.txt and board.bin in this folder.\n",
+        &[0],
     );
 }

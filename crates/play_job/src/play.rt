@@ -1,9 +1,11 @@
 // The events of a job, one after the other on one board.
 ghost use mathlib.Core.Path.{_≡_};
 ghost use lib.ListN.{length};
+ghost use Rattle.board.specs.Layout.{logger, memoryBytes};
 use crate::change;
 use crate::event;
 use crate::refuse;
+use board::Board;
 use device::Device;
 use libc::STDOUT_FILENO;
 use loader::Stepped;
@@ -12,6 +14,9 @@ use refusal::Refusal;
 use request::Setup;
 
 const TRANSFER: usize = Setup::TRANSFER as usize;
+
+// What of memory is neither flash nor options.
+const RAM: usize = Board::LOGGER_MEMORY - Board::LOGGER_FLASH - Board::OPTION_BYTES;
 
 // Room for a line in which every part differs.
 const LINE_ROOM: usize = 1200;
@@ -35,9 +40,9 @@ fn turn(
     block: &mut [u8],
     reply: &mut [u8],
 ) -> Device
-    requires { ⌜ length (now memory) ≡ 18448 ⌝ }
+    requires { ⌜ length (now memory) ≡ memoryBytes logger ⌝ }
 {
-    let mut before = [0u8; change::MEMORY];
+    let mut before = [0u8; Board::LOGGER_MEMORY];
     buffer::put(&mut before, 0, memory);
     let asked = player::asks(piece);
     let stepped = player::step(device, piece, memory, block, reply);
@@ -65,20 +70,31 @@ fn conclude(number: usize, device: Device, old: &[u8], new: &[u8]) {
     files::write(STDOUT_FILENO, &line, end);
 }
 
+// A file that is no board's memory.
+fn refuse_size() {
+    refuse::say(
+        Refusal::Memory,
+        b"A board has # bytes: # of flash, # of RAM, # of options. Give a file of that size.\n",
+        &[
+            Board::LOGGER_MEMORY,
+            Board::LOGGER_FLASH,
+            RAM,
+            Board::OPTION_BYTES,
+        ],
+    );
+}
+
 // Plays packed events on a board that was just attached, if it is one.
 pub(crate) fn play(packed: &[u8], board: &[u8]) {
-    if board.len() != change::MEMORY {
-        refuse::say(
-            Refusal::Memory,
-            b"A board has 18448 bytes: 16384 of flash, 2048 of RAM, 16 of options. Give a file of that size.\n",
-        );
+    if board.len() != Board::LOGGER_MEMORY {
+        refuse_size();
         return;
     }
-    let mut memory = [0u8; change::MEMORY];
+    let mut memory = [0u8; Board::LOGGER_MEMORY];
     let mut block = [0u8; TRANSFER];
     let mut reply = [0u8; TRANSFER];
     buffer::put(&mut memory, 0, board);
-    let mut device = Device::START;
+    let mut device = Device::start(Board::LOGGER);
     let mut number = 0;
     let mut at = 0;
     let mut size = packed::piece_length(packed);

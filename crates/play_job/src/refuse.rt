@@ -12,11 +12,10 @@ fn name(why: Refusal) {
     telling::line(STDOUT_FILENO, Verdict::Refused(why));
 }
 
-// The line and a sentence, in which the line of the job has a gap that picks and one that names it.
-pub(crate) fn say(why: Refusal, template: &[u8]) {
+// The line and a sentence with its numbers.
+pub(crate) fn say(why: Refusal, template: &[u8], numbers: &[usize]) {
     let mut room = [0u8; ROOM];
-    let line = why.line();
-    let count = sentence::fill(template, &[line, line], b"", &mut room, 0);
+    let count = sentence::fill(template, numbers, b"", &mut room, 0);
     name(why);
     files::write(STDERR_FILENO, &room, count);
 }

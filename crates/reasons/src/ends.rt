@@ -2,6 +2,7 @@
 use crate::deed;
 use crate::place;
 use crate::say;
+use board::Board;
 use device::Device;
 use mode::Mode;
 
@@ -48,10 +49,10 @@ fn stayed(mode: Mode, count: usize) {
     );
     say::mode(mode);
     say::tell(
-        b", and the new program is not started. [Add the GETSTATUS with which the loader leaves.|Send the GETSTATUS that are due, and end|Send the GETSTATUS that is due, and end|Send ABORT, and end|Add a line A, for the board to be attached again, and end|End][| the job as a plan ends: set pointer to 0x08000000, two GETSTATUS, DNLOAD of length 0, one GETSTATUS.]",
+        b", and the new program is not started. [Add the GETSTATUS with which the loader leaves.|Send the GETSTATUS that are due, and end|Send the GETSTATUS that is due, and end|Send ABORT, and end|Add a line A, for the board to be attached again, and end|End][| the job as a plan ends: set pointer to @, two GETSTATUS, DNLOAD of length 0, one GETSTATUS.]",
         due,
         due,
-        0,
+        Board::LOGGER.flash_first() as usize,
         0,
     );
 }
@@ -62,9 +63,9 @@ fn astray(pointer: u32, pointed: usize, left: usize) {
     say::tell(b"Line # of the job sets the pointer to ", pointed, 0, 0, 0);
     place::span(pointer as u64, 1);
     say::tell(
-        b", where it still is when the job leaves, and the board would start its program from there. Set the pointer to 0x08000000, with two GETSTATUS, before the DNLOAD of length 0 in line #.",
+        b", where it still is when the job leaves, and the board would start its program from there. Set the pointer to @, with two GETSTATUS, before the DNLOAD of length 0 in line #.",
+        Board::LOGGER.flash_first() as usize,
         left,
-        0,
         0,
         0,
     );

@@ -13,7 +13,7 @@ use request::Request;
 use request::Setup;
 
 // An event that fails: its line, the board before it, its setup and the command that its data spells. Then, of that
-// board: the line by which the loader has left, the first byte of flash in the way of a write, and read protection.
+// board: the line by which the loader has left, the place of the first byte in the way of a write, and read protection.
 pub struct Failed {
     pub line: usize,
     pub device: Device,
@@ -139,30 +139,30 @@ fn stalls(mode: Mode, reason: usize) {
     );
 }
 
-// A write to flash that is not erased, first at this place.
+// A write to flash that is not erased, first at this place of memory.
 fn dirty(first: usize) {
     say::text(b"On some board the byte at ");
-    place::flash(first);
+    place::byte(first);
     say::tell(
         b" is not erased by then, and the loader writes nothing and reports errWRITE. Erase page # in the lines before, and write no byte twice.",
-        first / Board::PAGE,
+        Board::LOGGER.page_at(first),
         0,
         0,
         0,
     );
 }
 
-// The reason; the loader has left by line `left`, and `dirt` is the first byte in the way of a write.
+// The reason; the loader has left by line `left`, and `dirt` is the place of the first byte in the way of a write.
 fn tell(reason: usize, left: usize, dirt: usize, mode: Mode, setup: Setup) {
     match reason {
         DIRTY => dirty(dirt),
         MISSHAPED => form::correct(setup),
         0..=9 => say::tell(
-            b"The [loader has left before this line and answers nothing. Take out the lines from here on or, where the job needs them, the DNLOAD of length 0 in line #.|board reboots before this line, for its options were written or its read protection was lifted, and answers nothing. Put a line A before this one.|loader stalls it, for blocks are numbered from 2 on. Correct wValue.|loader stalls it: with wValue 0 it takes 21 and four address bytes, 41 and four, 41 alone, or 92 alone. Correct the data, or write a block with wValue 2.|loader reports errVENDOR, for read protection is on (option byte 0 is not AA). Lift it on the board, which erases the flash, then check again with the card that the board has then.|loader reports errTARGET, for options are read and written all 16 at once, from 0x1FFFF800 on. Correct the pointer or the length.|loader reports errTARGET, for these bytes do not lie in one region. Correct the pointer, wValue or the length.|loader reports errTARGET, for flash and RAM are read and written two bytes at least. Ask for two, and pad a write with FF.|loader reports errTARGET, for only flash has pages. Correct the address.|loader reports errTARGET, for the address is in no region. Correct it.]",
+            b"The [loader has left before this line and answers nothing. Take out the lines from here on or, where the job needs them, the DNLOAD of length 0 in line #.|board reboots before this line, for its options were written or its read protection was lifted, and answers nothing. Put a line A before this one.|loader stalls it, for blocks are numbered from 2 on. Correct wValue.|loader stalls it: with wValue 0 it takes 21 and four address bytes, 41 and four, 41 alone, or 92 alone. Correct the data, or write a block with wValue 2.|loader reports errVENDOR, for read protection is on (option byte 0 is not AA). Lift it on the board, which erases the flash, then check again with the card that the board has then.|loader reports errTARGET, for options are read and written all # at once, from @ on. Correct the pointer or the length.|loader reports errTARGET, for these bytes do not lie in one region. Correct the pointer, wValue or the length.|loader reports errTARGET, for flash and RAM are read and written two bytes at least. Ask for two, and pad a write with FF.|loader reports errTARGET, for only flash has pages. Correct the address.|loader reports errTARGET, for the address is in no region. Correct it.]",
             reason,
             left,
-            0,
-            0,
+            Board::OPTION_BYTES,
+            Board::LOGGER.options_first() as usize,
         ),
         _ => stalls(mode, reason),
     }

@@ -9,11 +9,11 @@ use board::Board;
 use device::Device;
 use device::Pending;
 
-// A byte of flash after the job: its offset, and the side that it lies on (0 in the image, 1 behind it in its last
-// page, 2 in a page that the image does not reach); its value on either board, the one that it has to have, whether the
-// card protects its page, and the last line that changed the option byte of its page.
+// A byte of flash after the job: its place in memory, and the side that it lies on (0 in the image, 1 behind it in its
+// last page, 2 in a page that the image does not reach); its value on either board, the one that it has to have, whether
+// the card protects its page, and the last line that changed the option byte of its page.
 pub struct Found {
-    pub offset: usize,
+    pub place: usize,
     pub side: usize,
     pub zero: u8,
     pub erased: u8,
@@ -32,13 +32,13 @@ fn hold(is_locked: bool, line: usize) -> usize {
 }
 
 fn stuck(found: Found) {
-    let page = found.offset / Board::PAGE;
+    let page = Board::LOGGER.page_at(found.place);
     say::fill(
         b"[page # is write-protected by the card (option byte #, bit #): the loader answers OK to every erase and write there and leaves the page as it is, so the old code would stay. Lift the write protection of page # on the board, then check again with the card that the board has then.|the job leaves it as it was. Erase page # in the job, then write the image's bytes to it.|the job leaves it as it was. The job changes the write protection, last in line #: erase and write page # while it is not write-protected.]",
         &[
             hold(found.is_locked, found.line),
             page,
-            protection::option_of(page),
+            protection::option_of(Board::LOGGER, page),
             page % 8,
             page,
             page,
@@ -78,7 +78,7 @@ fn done(found: Found, line: usize, device: Device) {
 // The byte, and the line that did something to it, on this device.
 pub fn wrong(found: Found, line: usize, device: Device) {
     say::text(b"The byte at ");
-    place::flash(found.offset);
+    place::byte(found.place);
     say::tell(
         b" [belongs to the image|lies behind the image in its last page and has to be erased|lies behind the image's last page and has to stay as it is], but ",
         found.side,

@@ -7,9 +7,6 @@ use board::Place;
 // How many addresses there are.
 const ADDRESSES: u64 = 0x1_0000_0000;
 
-// How many pages lie before the flash.
-const PAGES: usize = Board::FLASH as usize / Board::PAGE;
-
 // Where bytes lie, as the sentence counts it: in RAM, in the options, nowhere, in a page of flash, or in more.
 fn region(place: Place, low: usize, high: usize) -> usize {
     match place {
@@ -29,13 +26,22 @@ fn but_one(count: u16) -> usize
     count as usize - 1
 }
 
+// The page of an address, or 0 where it lies in none.
+fn page_of(address: usize) -> usize {
+    let place = Board::LOGGER.place(address as u64, 1);
+    match place {
+        Place::Flash(at) => Board::LOGGER.page_at(at),
+        _ => 0,
+    }
+}
+
 // So many bytes from an address on.
 pub(crate) fn span(from: u64, count: u16) {
     let place = Board::LOGGER.place(from, count as u64);
     let first = (from % ADDRESSES) as usize;
     let last = first + but_one(count);
-    let low = first / Board::PAGE;
-    let high = last / Board::PAGE;
+    let low = page_of(first);
+    let high = page_of(last);
     say::fill(
         b"@[| to @][ (RAM)| (options)| (not in a region)| (page #)| (pages # to #)]",
         &[
@@ -43,14 +49,15 @@ pub(crate) fn span(from: u64, count: u16) {
             but_one(count),
             last,
             region(place, low, high),
-            low % PAGES,
-            low % PAGES,
-            high % PAGES,
+            low,
+            low,
+            high,
         ],
     );
 }
 
-// The flash byte at an offset.
-pub(crate) fn flash(offset: usize) {
-    span(Board::FLASH as u64 + offset as u64 % ADDRESSES, 1);
+// The byte at a place of memory.
+pub(crate) fn byte(place: usize) {
+    let stretch = Board::LOGGER.stretch_at(place);
+    span(stretch.address as u64, 1);
 }

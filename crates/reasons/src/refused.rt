@@ -35,14 +35,18 @@ fn plural(card: usize) -> usize {
 pub fn refuses(why: Refusal, image: usize, card: usize) {
     let number = why.number() as usize;
     say::fill(
-        b"[|||||||The image |The card has |The job has more than 60000 bytes|Line # of the job is malformed|][is empty|has more bytes than the flash|# byte|# bytes|more than 16 bytes|][|||||||. Give an image of 1 to 16384 bytes.|. Give the 16 option bytes as they are read from 0x1FFFF800.|. Take out lines that it does not need: the plan of the longest image has 36078 bytes.|. Correct it: a line is A, or Q, a tab, 16 digits, a tab and the data, with as many bytes as the setup asks for, in hexadecimal of either case, and ends with LF alone; A and Q are capitals.|]",
+        b"[|||||||The image |The card has |The job has more than 60000 bytes|Line # of the job is malformed|][is empty|has more bytes than the flash|# byte|# bytes|more than # bytes|][|||||||. Give an image of 1 to # bytes.|. Give the # option bytes as they are read from @.|. Take out lines that it does not need: the plan of the longest image has 36078 bytes.|. Correct it: a line is A, or Q, a tab, 16 digits, a tab and the data, with as many bytes as the setup asks for, in hexadecimal of either case, and ends with LF alone; A and Q are capitals.|]",
         &[
             number,
             why.line(),
             amount(why, image, card),
             card,
             card,
+            Board::OPTION_BYTES,
             number,
+            Board::LOGGER.flash_bytes(),
+            Board::OPTION_BYTES,
+            Board::LOGGER.options_first() as usize,
         ],
     );
 }

@@ -9,7 +9,8 @@ use lib.ListN.{length, take, drop, getD, length-drop}
 use borrow.Author.Tests.{eq-eqb, ne-eqb, lt-ltb, le-ltb}
 use Rattle.laws.specs.Bytes.{put, filled}
 use Rattle.laws.proofs.Bytes.{rest-is}
-use Rattle.board.specs.Layout.{loggerPages, optionsFrom, optionBytes, memoryBytes}
+use Rattle.board.specs.Layout.{logger, optionsFrom, optionBytes, memoryBytes}
+use Rattle.board.specs.Memory.{optionsOf}
 use Rattle.protection.specs.Protection.{readProtected}
 use Rattle.request.specs.Request.{transferBytes}
 use Rattle.loader.specs.declared.Stepped.{Stepped}
@@ -21,9 +22,11 @@ use Rattle.trial.specs.declared.Scene.{Scene}
 use Rattle.trial.specs.Trial.{unplayed, nextOf, Life, life, livedOn, turnOf, livesOf, firstWritten, targetOf, surveyed, equipped, zeros, lastOf, trialOf}
 
 -- the memory with a card, and without
-pub equip-card : (old : ℕ) (card m f r : List ℕ) → length card ≡ optionBytes → f ≡ filled 0 (optionsFrom loggerPages) old m → r ≡ put (optionsFrom loggerPages) card f → r ≡ equipped old card m
+pub equip-card : (old size from : ℕ) (card m f r : List ℕ) → length card ≡ optionBytes → size ≡ memoryBytes logger → from ≡ optionsFrom logger → f ≡ filled 0 (size - 0) old m → r ≡ put from card f → r ≡ equipped old card m
 unfolding equipped
-equip-card old card m f r h e g = rw (g, e, eq-eqb (length card) optionBytes h) refl
+equip-card old size from card m f r h s o e g =
+    let k : size - 0 ≡ memoryBytes logger = omega arith in
+    rw (g, e, k, o, eq-eqb (length card) optionBytes h) refl
 
 pub equip-none : (old : ℕ) (card m : List ℕ) → (length card ≡ optionBytes → ⊥) → m ≡ equipped old card m
 unfolding equipped
@@ -75,13 +78,14 @@ abbrev pub seen : Scene → Bool → ℕ → ℕ → Scene
 seen s locked dirt altered =
     record { device = s .device; count = s .count; at = s .at; byte = s .byte; changed = s .changed; earlier = s .earlier; pointed = s .pointed; left = s .left; «is_protected» = locked; dirt = dirt; altered = altered }
 
-pub survey-is : (s : Scene) (m card : List ℕ) (from dirt altered : ℕ) (locked : Bool) → from ≡ targetOf (s .device .pointer) (s .device .pending) → locked ≡ readProtected loggerPages m → dirt ≡ firstWritten m (length m - from) from → altered ≡ firstChange (take (length m - optionsFrom loggerPages) (drop (optionsFrom loggerPages) m)) card optionBytes 0 → seen s locked dirt altered ≡ surveyed s m card
-unfolding surveyed
-survey-is s m card from dirt altered locked hf hl hd ha =
-    rw (ha, hd, hl, hf, rest-is (optionsFrom loggerPages) m) refl
+pub survey-is : (s : Scene) (m card : List ℕ) (from options dirt altered : ℕ) (locked : Bool) → from ≡ targetOf (s .device .pointer) (s .device .pending) → locked ≡ readProtected logger m → dirt ≡ firstWritten m (length m - from) from → options ≡ optionsFrom logger → altered ≡ firstChange (take (options + optionBytes - options) (drop options m)) card optionBytes 0 → seen s locked dirt altered ≡ surveyed s m card
+unfolding surveyed optionsOf
+survey-is s m card from options dirt altered locked hf hl hd o ha =
+    let k : options + optionBytes - options ≡ optionBytes = omega arith in
+    rw (ha, hd, hl, hf, k, o) refl
 
 -- the whole, from what its parts came to
-pub trial-is : (p : List ℕ) (events : ℕ) (card : List ℕ) (old place : ℕ) (m m′ b y : List ℕ) (s r : Scene) → m ≡ equipped old card (zeros (memoryBytes loggerPages)) → life s m′ b y ≡ livesOf p place events 0 (life (unplayed (getD m place 0)) m (zeros transferBytes) (zeros transferBytes)) → r ≡ surveyed s m′ card → r ≡ trialOf p events card old place
+pub trial-is : (p : List ℕ) (events : ℕ) (card : List ℕ) (old place : ℕ) (m m′ b y : List ℕ) (s r : Scene) → m ≡ equipped old card (zeros (memoryBytes logger)) → life s m′ b y ≡ livesOf p place events 0 (life (unplayed (getD m place 0)) m (zeros transferBytes) (zeros transferBytes)) → r ≡ surveyed s m′ card → r ≡ trialOf p events card old place
 unfolding trialOf
 trial-is p events card old place m m′ b y s r he hl hr =
     hr ∙ ap (lastOf card) hl ∙ ap (λ (n : List ℕ). lastOf card (livesOf p place events 0 (life (unplayed (getD n place 0)) n (zeros transferBytes) (zeros transferBytes)))) he

@@ -1,12 +1,17 @@
 -- A single board that lives through a packed job: no rule of the paper, but what explanations go by. Assumes nothing.
 use mathlib.Core.Bool.{false, cond, _||_}
 use mathlib.Core.List.{List}
-use Prim.Native.Nat.{ℕ, zero, suc, _+_, _-_, _/_, _%_}
+use Prim.Native.Nat.{ℕ, zero, suc, _+_, _-_}
 use lib.Dec.{eqb, ltb}
 use lib.ListN.{length, take, drop, getD, replicate}
 use Rattle.laws.specs.Bytes.{put, filled}
-use Rattle.board.specs.Layout.{loggerPages, pageBytes, flashFirst, optionsFrom, optionBytes, memoryBytes}
-use Rattle.protection.specs.Protection.{wordOf, writeProtected, readProtected}
+use Rattle.board.specs.declared.Place.{Place}
+use Rattle.board.specs.declared.Place.the-variants.{Flash, Ram, Options, Outside}
+use Rattle.board.specs.Layout.{logger, optionsFrom, optionBytes, memoryBytes}
+use Rattle.board.specs.Memory.{optionsOf}
+use Rattle.board.specs.Span.{placeOf}
+use Rattle.protection.specs.Protection.{wordOf, readProtected}
+use Rattle.flash.specs.Flash.{kept}
 use Rattle.request.specs.Request.{transferBytes}
 use Rattle.mode.specs.declared.Mode.{Mode}
 use Rattle.mode.specs.declared.Mode.the-variants.{Idle, DownloadSync, DownloadBusy, DownloadIdle, ManifestSync, UploadIdle, Error, Left, Rebooting}
@@ -35,7 +40,7 @@ leavingOf Rebooting = 0
 
 -- nothing has happened yet, and the watched byte is this one
 abbrev pub unplayed : ℕ → Scene
-unplayed byte = record { device = started; count = 0; at = 0; byte = byte; changed = 0; earlier = 0; pointed = 0; left = 0; «is_protected» = false; dirt = 0; altered = 0 }
+unplayed byte = record { device = started logger; count = 0; at = 0; byte = byte; changed = 0; earlier = 0; pointed = 0; left = 0; «is_protected» = false; dirt = 0; altered = 0 }
 
 -- the event in this line, up to place `at` of the job, leaves the device and the byte so; the line is noted for what it changed
 abbrev pub nextOf : Scene → ℕ → ℕ → Device → ℕ → Scene
@@ -84,16 +89,23 @@ livesOf packed place (suc n) line l = cond (ltb (l .scene .at) (length packed)) 
 -- of so many places from place i on, the first that is not erased and not in a write-protected page, or the place behind them
 unfoldable pub firstWritten : List ℕ → ℕ → ℕ → ℕ
 firstWritten m zero i = i
-firstWritten m (suc n) i = cond (eqb (getD m i 0) 0xFF || writeProtected (wordOf loggerPages m) (i / pageBytes)) (firstWritten m n (suc i)) i
+firstWritten m (suc n) i = cond (eqb (getD m i 0) 0xFF || kept logger (wordOf logger m) i) (firstWritten m n (suc i)) i
 
--- the place in flash where the write that waits begins, if it is one into flash
+-- a place in flash, and the front of memory for any other
+abbrev pub flashPlace : Place → ℕ
+flashPlace (Flash at) = at
+flashPlace (Ram at) = 0
+flashPlace (Options at) = 0
+flashPlace Outside = 0
+
+-- the place where the write that waits begins, if it is one into flash
 abbrev pub targetOf : ℕ → Pending → ℕ
 targetOf pointer Nothing = 0
 targetOf pointer (SetPointer address) = 0
 targetOf pointer (ErasePage address) = 0
 targetOf pointer MassErase = 0
 targetOf pointer ReadUnprotect = 0
-targetOf pointer (Write block count) = blockAddress transferBytes block pointer % flashFirst
+targetOf pointer (Write block count) = flashPlace (placeOf logger (blockAddress transferBytes block pointer) count)
 
 -- what the memory is like then: read protection, the first byte in the way of the write that waits, the first option that is not the card's
 unfoldable pub surveyed : Scene → List ℕ → List ℕ → Scene
@@ -108,15 +120,15 @@ surveyed s m card =
       earlier = s .earlier;
       pointed = s .pointed;
       left = s .left;
-      «is_protected» = readProtected loggerPages m;
+      «is_protected» = readProtected logger m;
       dirt = firstWritten m (length m - from) from;
-      altered = firstChange (drop (optionsFrom loggerPages) m) card optionBytes 0;
+      altered = firstChange (optionsOf logger m) card optionBytes 0;
     }
 
 -- the memory of a board whose flash and RAM are all `old`, with the options of the card; as it was where the card has another length
 unfoldable pub equipped : ℕ → List ℕ → List ℕ → List ℕ
 equipped old card m =
-    cond (eqb (length card) optionBytes) (put (optionsFrom loggerPages) card (filled 0 (optionsFrom loggerPages) old m)) m
+    cond (eqb (length card) optionBytes) (put (optionsFrom logger) card (filled 0 (memoryBytes logger) old m)) m
 
 -- so many zero bytes
 abbrev pub zeros : ℕ → List ℕ
@@ -132,4 +144,4 @@ lastOf card l = surveyed (l .scene) (l .memory) card
 
 -- the first events of a job on a board with this card, whose flash and RAM were all `old`; the byte at `place` is watched
 unfoldable pub trialOf : List ℕ → ℕ → List ℕ → ℕ → ℕ → Scene
-trialOf packed events card old place = lastOf card (livesOf packed place events 0 (born place (equipped old card (zeros (memoryBytes loggerPages)))))
+trialOf packed events card old place = lastOf card (livesOf packed place events 0 (born place (equipped old card (zeros (memoryBytes logger)))))

@@ -7,22 +7,14 @@ ghost use mathlib.Core.Path.{_≡_};
 ghost use mathlib.Core.Bool.{cond};
 ghost use Prim.Native.Nat.{_-_, _≤_};
 ghost use lib.ListN.{length, getD};
-ghost use Rattle.board.specs.Layout.{loggerPages, memoryBytes};
-ghost use Rattle.trial.specs.Trial.{leavingOf, unplayed, nextOf, life, turnOf, livesOf, firstWritten, targetOf, surveyed, equipped, trialOf};
+ghost use Rattle.board.specs.Layout.{logger, memoryBytes};
+ghost use Rattle.trial.specs.Trial.{flashPlace, leavingOf, unplayed, nextOf, life, turnOf, livesOf, firstWritten, targetOf, surveyed, equipped, trialOf};
 use board::Board;
+use board::Place;
 use device::Device;
 use device::Pending;
 use mode::Mode;
 use request::Setup;
-
-// The board's memory: flash, then RAM, then the option bytes, at which place they begin and how many they are.
-const FLASH: usize = Board::LOGGER.pages as usize * Board::PAGE;
-
-pub const OPTIONS_AT: usize = FLASH + Board::RAM_BYTES;
-
-pub const OPTIONS: usize = Board::OPTION_BYTES;
-
-const MEMORY: usize = OPTIONS_AT + OPTIONS;
 
 const TRANSFER: usize = Setup::TRANSFER as usize;
 
@@ -50,14 +42,14 @@ pub struct Scene {
 
 // A board whose flash and RAM are all `old`, with the options of the card.
 fn equip(memory: &mut [u8], old: u8, card: &[u8])
-    requires { ⌜ length (now memory) ≡ memoryBytes loggerPages ⌝ }
+    requires { ⌜ length (now memory) ≡ memoryBytes logger ⌝ }
     ensures { λ _. ⌜ now (memory .exit) ≡ equipped old (now (card .entry)) (now (memory .entry)) ⌝ }
 {
-    if card.len() != OPTIONS {
+    if card.len() != Board::OPTION_BYTES {
         return;
     }
-    buffer::fill(memory, 0, OPTIONS_AT, old);
-    buffer::put(memory, OPTIONS_AT, card);
+    buffer::fill(memory, 0, Board::LOGGER.memory_bytes(), old);
+    buffer::put(memory, Board::LOGGER.options_from(), card);
 }
 
 // 1 where the loader is about to leave, or has left.
@@ -88,7 +80,7 @@ fn first(byte: u8) -> Scene
     ensures { λ r. ⌜ r ≡ unplayed byte ⌝ }
 {
     Scene {
-        device: Device::START,
+        device: Device::start(Board::LOGGER),
         count: 0,
         at: 0,
         byte,
@@ -173,7 +165,7 @@ fn first_written(memory: &[u8], from: usize) -> usize
     let word = protection::protection_word(Board::LOGGER, memory);
     let mut i = from;
     while i < memory.len() {
-        if memory[i] != 0xFF && !protection::write_protected(word, i / Board::PAGE) {
+        if memory[i] != 0xFF && !flash::is_kept(Board::LOGGER, word, i) {
             return i;
         }
         i += 1;
@@ -181,7 +173,19 @@ fn first_written(memory: &[u8], from: usize) -> usize
     i
 }
 
-// The place in flash where the write that waits begins, if it is one into flash.
+// A place in flash, and the front of memory for any other.
+fn in_flash(place: Place) -> usize
+    ensures { λ r. ⌜ r ≡ flashPlace place ⌝ }
+{
+    match place {
+        Place::Flash(at) => at,
+        Place::Ram(_) => 0,
+        Place::Options(_) => 0,
+        Place::Outside => 0,
+    }
+}
+
+// The place where the write that waits begins, if it is one into flash.
 fn aim(pointer: u32, pending: Pending) -> usize
     ensures { λ r. ⌜ r ≡ targetOf pointer pending ⌝ }
 {
@@ -191,24 +195,27 @@ fn aim(pointer: u32, pending: Pending) -> usize
         Pending::ErasePage(_) => 0,
         Pending::MassErase => 0,
         Pending::ReadUnprotect => 0,
-        Pending::Write { block, count: _ } => {
-            (access::block_address(block, pointer) % Board::FLASH as u64) as usize
+        Pending::Write { block, count } => {
+            let address = access::block_address(block, pointer);
+            in_flash(Board::LOGGER.place(address, count as u64))
         }
     }
 }
 
 // What the memory is like then.
 fn survey(scene: Scene, memory: &[u8], card: &[u8]) -> Scene
-    requires { ⌜ length (now memory) ≡ memoryBytes loggerPages ⌝ }
+    requires { ⌜ length (now memory) ≡ memoryBytes logger ⌝ }
     ensures { λ r. ⌜ r ≡ surveyed scene (now (memory .entry)) (now (card .entry)) ⌝ }
 {
     let device = scene.device;
     let pending = device.pending;
     let from = aim(device.pointer, pending);
+    let options = Board::LOGGER.options_from();
+    let behind = options + Board::OPTION_BYTES;
     Scene {
         is_protected: protection::read_protected(Board::LOGGER, memory),
         dirt: first_written(memory, from),
-        altered: compare::first_change(&memory[OPTIONS_AT..], card, 0, OPTIONS),
+        altered: compare::first_change(&memory[options..behind], card, 0, Board::OPTION_BYTES),
         ..scene
     }
 }
@@ -217,7 +224,7 @@ fn survey(scene: Scene, memory: &[u8], card: &[u8]) -> Scene
 pub fn run(packed: &[u8], events: usize, card: &[u8], old: u8, place: usize) -> Scene
     ensures { λ r. ⌜ r ≡ trialOf (now (packed .entry)) events (now (card .entry)) old place ⌝ }
 {
-    let mut memory = [0u8; MEMORY];
+    let mut memory = [0u8; Board::LOGGER_MEMORY];
     let mut block = [0u8; TRANSFER];
     let mut reply = [0u8; TRANSFER];
     equip(&mut memory, old, card);

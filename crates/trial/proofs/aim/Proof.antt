@@ -25,11 +25,14 @@ enum-known-pending c = search needs
 block-address-requires : tie.Need-block-address-requires
 block-address-requires c κs = search needs
 
-cast-result : tie.Need-cast-result
-cast-result c = search needs
+cast-place : tie.Need-cast-place
+cast-place c = search needs
 
-rem-result : tie.Need-rem-result
-rem-result c = search needs
+place-requires : tie.Need-place-requires
+place-requires c κs = search needs
+
+in-flash-requires : tie.Need-in-flash-requires
+in-flash-requires c κs = search needs
 
 returns : tie.Need-returns
 returns c = search needs
@@ -47,7 +50,7 @@ returns-5 : tie.Need-returns-5
 returns-5 c = search needs
 
 returns-6 : tie.Need-returns-6
-returns-6 c = rw (c .before .before .pending .given .1, c .block-address .ensures) refl
+returns-6 c = rw (c .before .before .before .before .pending .given .1, c .in-flash .ensures, c .before .place .ensures, c .before .before .block-address .ensures) refl
 
 pub aim-spec : {M : Type 1} → statement M
 aim-spec =
@@ -60,8 +63,9 @@ aim-spec =
     enum-told-5
     enum-known-pending
     block-address-requires
-    cast-result
-    rem-result
+    cast-place
+    place-requires
+    in-flash-requires
     returns
     returns-2
     returns-3

@@ -26,14 +26,14 @@ loop-holds c = refl
 shared-slice-read-if1 : tie.Need-shared-slice-read-if1 Inv-loop μ-loop
 shared-slice-read-if1 c = omega arith
 
-write-protected-requires : tie.Need-write-protected-requires Inv-loop μ-loop
-write-protected-requires c κs = search needs
+is-kept-requires : tie.Need-is-kept-requires Inv-loop μ-loop
+is-kept-requires c κs = search needs
 
 returns : tie.Need-returns Inv-loop μ-loop
 returns c =
     let w = c .before in
     let l = w .before .before .before .before in
-    sym (written-found _ _ _ (l .before .protection-word .ensures) (w .before .before .before .loop-test .taken) (w .before .if1 .taken) (sym (w .write-protected .ensures) ∙ not-true _ (c .if2 .taken))) ∙ l .loop .inv
+    sym (written-found _ _ _ (l .before .protection-word .ensures) (w .before .before .before .loop-test .taken) (w .before .if1 .taken) (sym (w .is-kept .ensures) ∙ not-true _ (c .if2 .taken))) ∙ l .loop .inv
 
 add-i : tie.Need-add-i Inv-loop μ-loop
 add-i c = omega arith
@@ -63,7 +63,7 @@ first-written-spec =
     protection-word-requires
     loop-holds
     shared-slice-read-if1
-    write-protected-requires
+    is-kept-requires
     returns
     add-i
     loop-less

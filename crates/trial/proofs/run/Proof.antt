@@ -1,4 +1,6 @@
 -- `trial::run` meets its contract. Assumes nothing.
+-- the array is lent as the logger's memory: its size is computed, whatever it is
+use Rattle.board.specs.Layout.{flashPages, pageBytes, pageOffset, flashBytes, flashFrom, ramBytes, ramFrom, optionsFrom, memoryBytes}
 use Rattle.trial.proofs.Turns.{trial-is}
 use borrow.Author.Needs.{needs}
 use Rattle.trial.proofs.run.Statement.{statement}
@@ -8,6 +10,7 @@ slice-aggregate-equip : tie.Need-slice-aggregate-equip
 slice-aggregate-equip c = search needs
 
 equip-requires : tie.Need-equip-requires
+unfolding memoryBytes optionsFrom ramFrom ramBytes flashFrom flashBytes pageOffset flashPages pageBytes
 equip-requires c κs = search needs
 
 slice-aggregate-live : tie.Need-slice-aggregate-live
@@ -26,9 +29,11 @@ slice-aggregate-survey : tie.Need-slice-aggregate-survey
 slice-aggregate-survey c = search needs
 
 survey-requires : tie.Need-survey-requires
+unfolding memoryBytes optionsFrom ramFrom ramBytes flashFrom flashBytes pageOffset flashPages pageBytes
 survey-requires c κs = search needs
 
 returns : tie.Need-returns
+unfolding memoryBytes optionsFrom ramFrom ramBytes flashFrom flashBytes pageOffset flashPages pageBytes
 returns c =
     let l = c .before .before .before .before .before in
     let e = l .before .before .before .before .before in

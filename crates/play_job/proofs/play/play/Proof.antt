@@ -1,24 +1,23 @@
 -- `play_job::play::play` is safe and ends. Assumes nothing.
+-- the array is lent as the logger's memory: its size is computed, whatever it is
 use mathlib.Core.Path.{_≡_}
 use Prim.Native.Nat.{_-_, _+_, _≤_}
 use lib.ListN.{length}
 use borrow.Author.Needs.{needs}
+use Rattle.board.specs.Layout.{flashPages, pageBytes, pageOffset, flashBytes, ramBytes, ramFrom, optionsFrom, memoryBytes}
 use Rattle.play_job.proofs.play.play.Statement.{statement}
 use Rattle.play_job.proofs.play.play.Tie as tie
 
 abbrev Inv-loop : tie.InvT-loop
 Inv-loop packed board memory₀ block₀ reply₀ device₀ number₀ at₀ size₀ memory block reply device number at size =
-    (number ≤ at) × (at + size ≤ length packed) × (length memory ≡ 18448) × (length block ≡ length block₀) × (length reply ≡ length reply₀)
+    (number ≤ at) × (at + size ≤ length packed) × (length memory ≡ length memory₀) × (length block ≡ length block₀) × (length reply ≡ length reply₀)
 
 abbrev μ-loop : tie.MeasureT-loop
 μ-loop packed board memory₀ block₀ reply₀ device₀ number₀ at₀ size₀ memory block reply device number at size =
     length packed - at
 
-slice-aggregate-say : tie.Need-slice-aggregate-say Inv-loop μ-loop
-slice-aggregate-say c = search needs
-
-say-requires : tie.Need-say-requires Inv-loop μ-loop
-say-requires c κs = search needs
+refuse-size-requires : tie.Need-refuse-size-requires Inv-loop μ-loop
+refuse-size-requires c κs = search needs
 
 returns : tie.Need-returns Inv-loop μ-loop
 returns c = search needs
@@ -28,6 +27,9 @@ slice-aggregate-put c = search needs
 
 put-requires : tie.Need-put-requires Inv-loop μ-loop
 put-requires c κs = search needs
+
+start-requires : tie.Need-start-requires Inv-loop μ-loop
+start-requires c κs = search needs
 
 piece-length-requires : tie.Need-piece-length-requires Inv-loop μ-loop
 piece-length-requires c κs = search needs
@@ -60,6 +62,7 @@ slice-aggregate-turn-3 : tie.Need-slice-aggregate-turn-3 Inv-loop μ-loop
 slice-aggregate-turn-3 c = search needs
 
 turn-requires : tie.Need-turn-requires Inv-loop μ-loop
+unfolding memoryBytes optionsFrom ramFrom ramBytes flashBytes pageOffset flashPages pageBytes
 turn-requires c κs = search needs
 
 sub-piece-length : tie.Need-sub-piece-length Inv-loop μ-loop
@@ -95,11 +98,11 @@ play-spec =
     (tie.spec
     Inv-loop
     μ-loop
-    slice-aggregate-say
-    say-requires
+    refuse-size-requires
     returns
     slice-aggregate-put
     put-requires
+    start-requires
     piece-length-requires
     loop-holds
     add-end
