@@ -1,4 +1,4 @@
--- How far an action reaches, for who performs it: no rule of the paper, and no public promise names it. Assumes nothing.
+-- How far an action reaches, for who performs it: no rule of the paper, and the promise of no call that a customer makes names it. Assumes nothing.
 use Prim.Native.Nat.{_+_, _≤_}
 use Rattle.board.specs.declared.Board.{Board}
 use Rattle.board.specs.Layout.{flashPages, memoryBytes}

@@ -124,15 +124,15 @@ each-free board v word i (suc n) (m ∷ ms) free =
     rw (here, rest, or-none (eqb m v))
 
 -- and one of marks
-sure-free : (board : Board) (word n i : ℕ) (w : Work) → i + n ≤ length (w .marks) → ((k : ℕ) → i ≤ k → k < i + n → kept board word k ≡ false) → allKnown i n w ≡ sureFrom board word n i w
+sure-free : (board : Board) (word n i : ℕ) (w : Work) → Sized board w → i + n ≤ memoryBytes board → ((k : ℕ) → i ≤ k → k < i + n → kept board word k ≡ false) → allKnown i n w ≡ sureFrom board word n i w
 unfolding sureFrom
-sure-free board word zero i w h free = all-none i w
-sure-free board word (suc n) i w h free =
-    let inside : i < length (w .marks) = omega arith in
-    let more : suc i + n ≤ length (w .marks) = omega arith in
+sure-free board word zero i w s h free = all-none i w
+sure-free board word (suc n) i w s h free =
+    let inside : i < memoryBytes board = omega arith in
+    let more : suc i + n ≤ memoryBytes board = omega arith in
     let here : kept board word i ≡ false = free i (omega arith) (omega arith) in
-    let rest : allKnown (suc i) n w ≡ sureFrom board word n (suc i) w = sure-free board word n (suc i) w more (λ k a b. free k (omega arith) (omega arith)) in
-    all-next i n w inside ∙ rw (here, rest, or-none (known w i))
+    let rest : allKnown (suc i) n w ≡ sureFrom board word n (suc i) w = sure-free board word n (suc i) w s more (λ k a b. free k (omega arith) (omega arith)) in
+    all-next board i n w s inside ∙ rw (here, rest, or-none (known w i))
 
 -- the span from place `at` up to place `end` lies in flash, and no page is write-protected
 abbrev pub isOpen : Board → ℕ → ℕ → ℕ → Bool
@@ -177,8 +177,7 @@ module _ (board : Board) (word at count : ℕ) (w : Work) (sound : Sound board) 
   pub sure-there : (b : Bool) → b ≡ allKnown at (at + count - at) w → b ≡ sureFrom board word count at w
   sure-there b h =
       let k : at + count - at ≡ count = omega arith in
-      let fits : at + count ≤ length (w .marks) = omega (arith, s .marks) in
-      h ∙ rw k (sure-free board word count at w fits free-there)
+      h ∙ rw k (sure-free board word count at w s room free-there)
 
   pub stored-there : (w′ : Work) → count ≤ transferBytes → w′ ≡ valued (put at (take count (w .block)) (w .values)) w → w′ ≡ valued (stored board word at (take count (w .block)) (w .values)) w
   stored-there w′ c e =

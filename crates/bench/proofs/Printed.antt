@@ -11,6 +11,7 @@ use Rattle.digit.specs.Digit.{digitOf}
 use Rattle.hex.specs.Hex.{hexOf}
 use Rattle.line.specs.Event.{lineOf}
 use Rattle.text.specs.Text.{textOf}
+use Rattle.ihex.specs.Ways.{textBytes}
 use Rattle.plan.specs.Plan.{pagesFrom, planEvents, planOf}
 use Rattle.plan.specs.Parts.{planBytes}
 use Rattle.plan.proofs.Length.{plan-length, bytes-most}
@@ -58,3 +59,8 @@ plan-at-most image h = omega (arith, plan-length logger logger-sound image, byte
 -- and an image of the whole flash has one as long
 pub plan-longest : (image : List ℕ) → length image ≡ flashBytes logger → length (planOf logger image) ≡ 36078
 plan-longest image h = plan-length logger logger-sound image ∙ ap (planBytes logger) h ∙ longest
+
+-- and the HEX of an image of the whole flash, which no text of the writer is longer than
+pub longest-hex : textBytes (flashBytes logger) ≡ 45084
+unfolding flashBytes pageOffset flashPages pageBytes
+longest-hex = refl

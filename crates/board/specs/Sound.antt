@@ -1,4 +1,4 @@
--- What proofs ask of a board: no rule of the paper, and no public promise names it. Assumes nothing.
+-- What proofs ask of a board: no rule of the paper, and the promise of no call that a customer makes names it. Assumes nothing.
 use mathlib.Core.Logic.{_⊎_}
 use Prim.Native.Nat.{ℕ, _+_, _≤_, _<_}
 use Rattle.request.specs.Request.{transferBytes}
@@ -10,7 +10,7 @@ use Rattle.board.specs.Memory.{ramParts, partFrom, partBytes}
 abbrev pub Apart : ℕ → ℕ → ℕ → ℕ → Type 0
 Apart from count other others = (from + count ≤ other) ⊎ (other + others ≤ from)
 
--- flash has pages, a page takes a write and goes into one transfer; each region lies in memory, apart from the others, and its addresses fit
+-- flash has pages, a page takes a write and goes into one transfer; each region lies in memory, apart from the others, and the addresses of flash fit
 pub record Sound (board : Board) : Type 0 where
   pub some-pages : 1 ≤ flashPages board
   pub page-takes-two : 2 ≤ pageBytes board

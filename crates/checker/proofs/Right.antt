@@ -11,7 +11,7 @@ use Rattle.laws.specs.Lists.{same, allAre}
 use Rattle.laws.proofs.Lists.{same-eq}
 use Rattle.laws.proofs.Split.{by-lt}
 use Rattle.board.specs.declared.Board.{Board}
-use Rattle.board.specs.Layout.{flashPages, pagesOf, flashBytes, flashFrom}
+use Rattle.board.specs.Layout.{flashPages, pagesOf, flashBytes, flashFrom, memoryBytes}
 use Rattle.board.specs.Sound.{Sound}
 use Rattle.board.proofs.Pages.{pages-hold, pages-fit, offset-rises, flash-is-pages}
 use Rattle.compare.proofs.Alike.{are-at}
@@ -55,13 +55,13 @@ module _ (board : Board) (sound : Sound board) (flash size end : ℕ) (image : L
 
   known-at : (f : ℕ) → f < end → known w (flashFrom board + f) ≡ true
   known-at f h =
-      let room : flash + (flash + end - flash) ≤ length (w .marks) = omega (arith, s .marks, sound .flash-in-memory, end-high) in
-      all-known flash (flash + end - flash) w room all (flashFrom board + f) (omega arith) (omega arith)
+      let room : flash + (flash + end - flash) ≤ memoryBytes board = omega (arith, sound .flash-in-memory, end-high) in
+      all-known board flash (flash + end - flash) w s room all (flashFrom board + f) (omega arith) (omega arith)
 
   other-at : (f : ℕ) → end ≤ f → f < size → known w (flashFrom board + f) ≡ false
   other-at f h k =
-      let room : flash + end + (flash + size - (flash + end)) ≤ length (w .marks) = omega (arith, s .marks, sound .flash-in-memory, end-high) in
-      none-known (flash + end) (flash + size - (flash + end)) w room none (flashFrom board + f) (omega arith) (omega (arith, end-high))
+      let room : flash + end + (flash + size - (flash + end)) ≤ memoryBytes board = omega (arith, sound .flash-in-memory, end-high) in
+      none-known board (flash + end) (flash + size - (flash + end)) w s room none (flashFrom board + f) (omega arith) (omega (arith, end-high))
 
   none-suspect : (f : ℕ) → f < size → suspect board image w f ≡ false
   none-suspect f h =

@@ -8,9 +8,10 @@ use lib.ListN.{length}
 use borrow.Author.Tests.{eq-eqb, ne-eqb, eqb-true, lt-ltb, le-ltb, not-false}
 use Rattle.laws.proofs.Split.{by-eq, by-lt}
 use Rattle.board.specs.declared.Board.{Board}
-use Rattle.board.specs.Layout.{flashFirst, flashBytes}
+use Rattle.board.specs.Layout.{logger, flashFirst, flashBytes}
 use Rattle.board.specs.Memory.{flashAt}
 use Rattle.board.specs.Sound.{Sound}
+use Rattle.board.proofs.Logger.{logger-sound}
 use Rattle.board.proofs.Pages.{pages-hold}
 use Rattle.refusal.specs.declared.Refusal.{Refusal}
 use Rattle.refusal.specs.declared.Admission.{Admission}
@@ -168,6 +169,10 @@ demand-three board sound t image card w v x e c =
       λ is. exactly .0 (rw is at j),
       λ all. one-verdict board (eventsOf t) image card v verdict.Pass j (exactly .1 all),
     )
+
+-- And so on the logger's board, on which `check` runs.
+pub logger-demand-three : (t image card w : List ℕ) (v : Verdict) (x : List ℕ) → checkable logger t (length image) (length card) (length w) ≡ admission.Admitted → Checked logger t image card w (inFields v) x → (v ≡ verdict.Pass → AllWork logger (eventsOf t) image card) × (AllWork logger (eventsOf t) image card → v ≡ verdict.Pass)
+logger-demand-three = demand-three logger logger-sound
 
 capital-checkable : (board : Board) (t : List ℕ) (image card work : ℕ) → checkable board (capitalText t) image card work ≡ checkable board t image card work
 unfolding checkable

@@ -1,11 +1,11 @@
 -- Laws of lists laid one behind the other, and of what is then in front. Assumes nothing.
 use mathlib.Core.Path.{_≡_, refl, ap, ap₂, _∙_, sym}
-use mathlib.Core.List.{List, [], _∷_, _++_, append-assoc, append-nil}
+use mathlib.Core.List.{List, [], _∷_, _++_, append-assoc}
 use Prim.Native.Nat.{ℕ, suc, _+_, _≤_, _<_}
 use native.Mathlib.Nat.{add-zero}
 use native.Mathlib.Omega.{arith}
-use lib.ListN.{length, take, drop, set, length-append, drop-of-length-le}
-use lib.Seq.{sets, set-comm, length-sets, take-append-seam, length-take-le, drop-at}
+use lib.ListN.{length, take, drop, set, length-append}
+use lib.Seq.{sets, set-comm, take-append-seam, length-take-le, drop-at}
 use Rattle.laws.specs.Bytes.{put}
 use Rattle.laws.proofs.Bytes.{sets-put, put-length}
 
@@ -19,13 +19,6 @@ sets-append (x ∷ xs) ys m i =
 pub take-put : (xs m : List ℕ) → take (length xs) (put 0 xs m) ≡ xs
 unfolding put
 take-put xs m = take-append-seam xs (drop (0 + length xs) m)
-
--- what covers all of a list replaces it
-pub put-over : (xs m : List ℕ) → length m ≤ length xs → put 0 xs m ≡ xs
-unfolding put
-put-over xs m h =
-    let k : length m ≤ 0 + length xs = omega arith in
-    ap (λ (l : List ℕ). xs ++ l) (drop-of-length-le m k) ∙ append-nil xs
 
 -- what was put at a place stands there
 pub part-put : (xs m : List ℕ) (i : ℕ) → i ≤ length m → take (length xs) (drop i (put i xs m)) ≡ xs
@@ -62,15 +55,3 @@ sets-apart (y ∷ ys) xs m i j h =
     let k : j < i = omega arith in
     let r : suc j + length ys ≤ i = omega arith in
     ap (λ (l : List ℕ). sets l (suc j) ys) (set-apart xs m i j y k) ∙ sets-apart ys xs (set m j y) i (suc j) r
-
--- bytes laid in front of others, before or after them
-pub put-apart : (at j : ℕ) (xs ys m : List ℕ) → j + length ys ≤ at → at + length xs ≤ length m → put j ys (put at xs m) ≡ put at xs (put j ys m)
-put-apart at j xs ys m h room =
-    let a : j + length ys ≤ length m = omega arith in
-    let b : j + length ys ≤ length (sets m at xs) = rw (length-sets m at xs) a in
-    let c : at + length xs ≤ length (sets m j ys) = rw (length-sets m j ys) room in
-    ap (put j ys) (sym (sets-put xs m at room))
-    ∙ sym (sets-put ys (sets m at xs) j b)
-    ∙ sets-apart ys xs m at j h
-    ∙ sets-put xs (sets m j ys) at c
-    ∙ ap (put at xs) (sets-put ys m j a)

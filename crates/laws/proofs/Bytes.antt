@@ -1,11 +1,11 @@
 -- Laws of `put` and `filled`: one turn of a loop that stores, its end, and lengths. Assumes nothing.
 use mathlib.Core.Path.{_≡_, refl, ap, _∙_, sym}
-use mathlib.Core.List.{List, [], _∷_, _++_, append-nil, append-assoc}
+use mathlib.Core.List.{List, [], _∷_, _++_, append-assoc}
 use Prim.Native.Nat.{ℕ, zero, suc, _+_, _-_, _≤_, _<_}
 use native.Mathlib.Omega.{arith}
 use native.Mathlib.Nat.{le-refl, add-assoc, min-le-left, min-le-right}
 use native.Mathlib.Numerals.{add-one}
-use lib.ListN.{length, take, drop, getD, set, replicate, length-append, length-take, length-drop, length-replicate, drop-of-length-le, take-append-drop}
+use lib.ListN.{length, take, drop, getD, set, replicate, length-take, length-drop, length-replicate, drop-of-length-le, take-append-drop}
 use lib.Seq.{drop-cons, sets, sets-eq, length-sets, take-all, take-append-seam, drop-append-add, drop-drop}
 use Rattle.laws.specs.Bytes.{put, filled}
 
@@ -53,16 +53,6 @@ sets-filled m from to v h k =
 pub put-seam : (ys xs zs : List ℕ) → put (length ys) xs (ys ++ zs) ≡ ys ++ xs ++ drop (length xs) zs
 unfolding put
 put-seam ys xs zs = rw (take-append-seam, drop-append-add)
-
--- three lists laid one behind the other over all of m
-pub put-three : (xs ys zs m : List ℕ) → length m ≡ length xs + length ys + length zs → put (length xs + length ys) zs (put (length xs) ys (put 0 xs m)) ≡ xs ++ ys ++ zs
-put-three xs ys zs m e =
-    let rest : List ℕ = drop (length ys) (drop (length xs) m) in
-    let first : put 0 xs m ≡ xs ++ drop (length xs) m = put-seam [] xs m in
-    let second : put (length xs) ys (xs ++ drop (length xs) m) ≡ xs ++ ys ++ rest = put-seam xs ys (drop (length xs) m) in
-    let short : length rest ≤ length zs = simp length-drop (omega arith) in
-    let none : drop (length zs) rest ≡ [] = drop-of-length-le rest short in
-    rw (first, second, ← length-append xs ys, put-seam (xs ++ ys) zs rest, none, append-nil)
 
 -- what a callee that is handed `&s[k..]` sees
 pub rest-is : (k : ℕ) (l : List ℕ) → take (length l - k) (drop k l) ≡ drop k l

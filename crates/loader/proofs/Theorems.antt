@@ -6,6 +6,7 @@ use Prim.Native.Nat.{ℕ}
 use Rattle.board.specs.declared.Board.{Board}
 use Rattle.board.specs.Layout.{logger}
 use Rattle.board.specs.Sound.{Sound}
+use Rattle.board.proofs.Logger.{logger-sound}
 use Rattle.refusal.specs.declared.Refusal.{Refusal}
 use Rattle.refusal.specs.Refusal.{numberOf}
 use Rattle.refusal.specs.Order.{before}
@@ -58,3 +59,7 @@ module _ (board : Board) (d : Device) (e : Event) (q m b y : List ℕ) where
   -- a well-formed state stays well formed, so that no run of events ends in refusal 4
   pub step-keeps-form : Sound board → wellFormed board d ≡ true → wellFormed board (stepOf board d e q m b y .device) ≡ true
   step-keeps-form sound w = well-formed board (stepOf board d e q m b y .device) (step-form board sound d e q m b y (form-of board d w))
+
+-- so on the logger's board, on which `step` runs
+pub logger-keeps-form : (d : Device) (e : Event) (q m b y : List ℕ) → wellFormed logger d ≡ true → wellFormed logger (stepOf logger d e q m b y .device) ≡ true
+logger-keeps-form d e q m b y w = step-keeps-form logger d e q m b y logger-sound w

@@ -130,16 +130,17 @@ pub all-none : (from : ℕ) (w : Work) → allKnown from 0 w ≡ true
 unfolding allKnown allAre
 all-none from w = refl
 
-pub all-next : (from count : ℕ) (w : Work) → from < length (w .marks) → allKnown from (suc count) w ≡ (known w from && allKnown (suc from) count w)
+pub all-next : (board : Board) (from count : ℕ) (w : Work) → Sized board w → from < memoryBytes board → allKnown from (suc count) w ≡ (known w from && allKnown (suc from) count w)
 unfolding allKnown allAre known
-all-next from count w h = rw (drop-cons (w .marks) from 0 h)
+all-next board from count w s h =
+    let inside : from < length (w .marks) = omega (arith, s .marks) in
+    rw (drop-cons (w .marks) from 0 inside)
 
-pub all-known : (from count : ℕ) (w : Work) → from + count ≤ length (w .marks) → allKnown from count w ≡ true → (i : ℕ) → from ≤ i → i < from + count → known w i ≡ true
-all-known from zero w h e i a b = absurd (omega arith)
-all-known from (suc count) w h e i a b =
-    let inside : from < length (w .marks) = omega arith in
-    let parts = and-true (known w from) (allKnown (suc from) count w) (sym (all-next from count w inside) ∙ e) in
-    by-eq i from (λ z. ap (known w) z ∙ parts .0) (λ z. all-known (suc from) count w (omega arith) (parts .1) i (omega arith) (omega arith))
+pub all-known : (board : Board) (from count : ℕ) (w : Work) → Sized board w → from + count ≤ memoryBytes board → allKnown from count w ≡ true → (i : ℕ) → from ≤ i → i < from + count → known w i ≡ true
+all-known board from zero w s h e i a b = absurd (omega arith)
+all-known board from (suc count) w s h e i a b =
+    let parts = and-true (known w from) (allKnown (suc from) count w) (sym (all-next board from count w s (omega arith)) ∙ e) in
+    by-eq i from (λ z. ap (known w) z ∙ parts .0) (λ z. all-known board (suc from) count w s (omega arith) (parts .1) i (omega arith) (omega arith))
 
 -- a mark of 0 is none
 zero-unknown : (count from : ℕ) (ms : List ℕ) → from + count ≤ length ms → allAre 0 count (drop from ms) ≡ true → (i : ℕ) → from ≤ i → i < from + count → eqb (getD ms i 0) knownMark ≡ false
@@ -150,6 +151,8 @@ zero-unknown (suc count) from ms h e i a b =
     let parts = and-true (eqb (getD ms from 0) 0) (allAre 0 count (drop (suc from) ms)) (rw (drop-cons ms from 0 inside) at e) in
     by-eq i from (λ z. ap (λ (k : ℕ). eqb (getD ms k 0) knownMark) z ∙ ap (λ (x : ℕ). eqb x knownMark) (eqb-true (getD ms from 0) 0 (parts .0))) (λ z. zero-unknown count (suc from) ms (omega arith) (parts .1) i (omega arith) (omega arith))
 
-pub none-known : (from count : ℕ) (w : Work) → from + count ≤ length (w .marks) → noneKnown from count w ≡ true → (i : ℕ) → from ≤ i → i < from + count → known w i ≡ false
+pub none-known : (board : Board) (from count : ℕ) (w : Work) → Sized board w → from + count ≤ memoryBytes board → noneKnown from count w ≡ true → (i : ℕ) → from ≤ i → i < from + count → known w i ≡ false
 unfolding noneKnown known
-none-known from count w h e i a b = zero-unknown count from (w .marks) h e i a b
+none-known board from count w s h e i a b =
+    let room : from + count ≤ length (w .marks) = omega (arith, s .marks) in
+    zero-unknown count from (w .marks) room e i a b

@@ -5,8 +5,10 @@ use mathlib.Core.List.{List, [], _∷_}
 use Prim.Native.Nat.{ℕ, _+_, _-_, _≤_, _<_}
 use native.Mathlib.Omega.{arith}
 use lib.ListN.{length, take, drop, getD, set}
+use lib.Seq.{ext-getD}
 use Rattle.laws.specs.Bytes.{put}
 use Rattle.laws.proofs.Bytes.{sets-put}
+use Rattle.laws.proofs.Split.{by-lt}
 use Rattle.laws.proofs.Places.{part-length, part-at, part-put-in, part-put-out}
 use Rattle.board.specs.declared.Board.{Board}
 use Rattle.board.specs.Layout.{memoryBytes}
@@ -115,3 +117,20 @@ module _ (board : Board) (w : List ℕ) (l : length w ≡ workBytes board) where
       ap (workOf board) (sets-put (v ∷ []) w (valuesFrom board + i) here)
       ∙ values-put i (v ∷ []) one
       ∙ ap (λ (m : List ℕ). valued m (workOf board w)) (sym (sets-put (v ∷ []) (workOf board w .values) i there))
+
+-- what a work area says tells all its bytes
+pub work-injective : (board : Board) (v w : List ℕ) → length v ≡ workBytes board → length w ≡ workBytes board → workOf board v ≡ workOf board w → v ≡ w
+unfolding valuesFrom marksFrom blockFrom
+work-injective board v w k l e =
+    ext-getD 0 v w (k ∙ sym l)
+    (λ i h.
+    by-part board i (omega arith)
+    (λ j b p. ap (λ (x : ℕ). getD v x 0) p ∙ value-at board v k j b ∙ ap (λ (x : Work). getD (x .values) j 0) e ∙ sym (value-at board w l j b) ∙ ap (λ (x : ℕ). getD w x 0) (sym p))
+    (λ j b p. ap (λ (x : ℕ). getD v x 0) p ∙ mark-at board v k j b ∙ ap (λ (x : Work). getD (x .marks) j 0) e ∙ sym (mark-at board w l j b) ∙ ap (λ (x : ℕ). getD w x 0) (sym p))
+    (λ j b p. ap (λ (x : ℕ). getD v x 0) p ∙ block-at board v k j b ∙ ap (λ (x : Work). getD (x .block) j 0) e ∙ sym (block-at board w l j b) ∙ ap (λ (x : ℕ). getD w x 0) (sym p)))
+  where
+    -- each place of it is one of a value, of a mark or of the block
+    by-part : {C : Type 0} (board : Board) (i : ℕ) → i < workBytes board → ((j : ℕ) → j < memoryBytes board → i ≡ valuesFrom board + j → C) → ((j : ℕ) → j < memoryBytes board → i ≡ marksFrom board + j → C) → ((j : ℕ) → j < transferBytes → i ≡ blockFrom board + j → C) → C
+    by-part board i h x y z =
+        by-lt i (memoryBytes board) (λ a. x (i - valuesFrom board) (omega arith) (omega arith))
+        (λ a. by-lt i (memoryBytes board + memoryBytes board) (λ b. y (i - marksFrom board) (omega arith) (omega arith)) (λ b. z (i - blockFrom board) (omega arith) (omega arith)))

@@ -8,8 +8,6 @@ use native.Mathlib.Nat.{add-zero, pow-le-pow-right, div-eq-of-lt, lt-of-lt-of-le
 use mathlib.Core.List.{List}
 use lib.Dec.{eqb}
 use lib.ListN.{getD}
-use Rattle.laws.specs.Lists.{allBytes}
-use Rattle.laws.proofs.Lists.{byte-at}
 use Rattle.laws.proofs.Split.{by-eq, or-false}
 use Rattle.board.specs.declared.Board.{Board}
 use Rattle.board.specs.Layout.{optionsFrom, optionBytes}
@@ -81,12 +79,3 @@ module _ (board : Board) (m card : List ℕ) (same : (k : ℕ) → k < optionByt
   protection-by-card =
       let first : getD m (optionsFrom board) 0 ≡ getD card 0 0 = ap (λ (k : ℕ). getD m k 0) (sym (add-zero (optionsFrom board))) ∙ same 0 (omega arith) in
       ap (λ (k : ℕ). not (eqb k 0xAA)) first
-
--- the word of a card's bytes has 32 bits at most
-pub word-small : (board : Board) (card : List ℕ) → allBytes card ≡ true → wordFrom board 0 card < 2 ^ 32
-unfolding wordFrom
-word-small board card bytes =
-    let a : getD card 8 0 < 256 = byte-at card 8 bytes in
-    let b : getD card 9 0 < 256 = byte-at card 9 bytes in
-    let c : getD card 8 0 + getD card 9 0 * 256 < 4294967296 = omega arith in
-    c
