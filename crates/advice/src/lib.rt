@@ -145,7 +145,7 @@ pub fn explain(verdict: Verdict, evidence: Done, room: &[u8], image: &[u8], card
     let packed = &room[0..size(evidence, room.len())];
     match verdict {
         Verdict::Pass => refused::passed(image.len()),
-        Verdict::Refused(why) => refused::refuses(why, image.len(), card.len()),
+        Verdict::Refused(why) => refused::refuses(why, image.len(), card.len(), plan::LOGGER_JOB),
         Verdict::Event(line) => failed(line, packed, card),
         Verdict::End(condition) => ended(condition, packed, card),
         Verdict::Flash(offset) => differs(offset, packed, image, card),

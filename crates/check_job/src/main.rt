@@ -5,7 +5,6 @@ use files::Got;
 use libc::STDERR_FILENO;
 use libc::STDOUT_FILENO;
 use refusal::Refusal;
-use request::Setup;
 use verdict::Verdict;
 
 // A byte more than the longest job, image and card.
@@ -14,9 +13,6 @@ const JOB_ROOM: usize = text::LIMIT + 1;
 const IMAGE_ROOM: usize = Board::LOGGER_FLASH + 1;
 
 const CARD_ROOM: usize = Board::OPTION_BYTES + 1;
-
-// The checker's work area has two bytes for each of the memory, and a block.
-const WORK: usize = 2 * Board::LOGGER_MEMORY + Setup::TRANSFER as usize;
 
 // The arguments of a call that names all three files: the program's own name is the first. With a word behind them
 // there is one more, at this place.
@@ -31,7 +27,7 @@ fn after(much: usize, got: Got) -> usize {
 }
 
 fn judge(job: &[u8], image: &[u8], card: &[u8], is_quiet: bool) {
-    let mut work = [0u8; WORK];
+    let mut work = [0u8; marks::LOGGER_WORK];
     let verdict = checker::check(job, image, card, &mut work);
     telling::line(STDOUT_FILENO, verdict);
     if is_quiet {

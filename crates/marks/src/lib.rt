@@ -15,6 +15,9 @@ const KNOWN: u8 = 1;
 
 const UNKNOWN: u8 = 0;
 
+// How long the logger's work area is, for who lends an array of that size.
+pub const LOGGER_WORK: usize = 2 * Board::LOGGER_MEMORY + Setup::TRANSFER as usize;
+
 // Where the values stand in the work area.
 pub fn values_from(board: Board) -> usize
     ensures { λ r. ⌜ r ≡ valuesFrom board ⌝ }

@@ -34,6 +34,11 @@ const PAGE_LINES: usize = 200;
 
 const END_LINES: usize = 110;
 
+// How long the logger's longest plan is, for who lends an array of that size.
+pub const LOGGER_JOB: usize = Board::LOGGER.pages as usize * PAGE_LINES
+    + Board::LOGGER_FLASH * 2
+    + END_LINES;
+
 // Does the card keep the image from being written?
 fn barred(board: Board, image: &[u8], card: &[u8]) -> bool
     ensures { λ r. ⌜ r ≡ barred board (now (image .entry)) (now (card .entry)) ⌝ }

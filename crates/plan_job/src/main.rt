@@ -12,15 +12,12 @@ const IMAGE_ROOM: usize = Board::LOGGER_FLASH + 1;
 
 const CARD_ROOM: usize = Board::OPTION_BYTES + 1;
 
-// The longest job of an image.
-const JOB_ROOM: usize = 36078;
-
 // The arguments of a call that names both files: the program's own name is the first.
 const NAMED: usize = 3;
 
 // Writes the job of an image for a card.
 fn perform(image: &[u8], card: &[u8]) {
-    let mut job = [0u8; JOB_ROOM];
+    let mut job = [0u8; plan::LOGGER_JOB];
     let done = plan::plan(image, card, &mut job);
     match done {
         Done::Bytes(size) => files::write(STDOUT_FILENO, &job, size),

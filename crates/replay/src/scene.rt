@@ -194,7 +194,13 @@ fn lay_options(tape: &[u8], count: usize, memory: &mut [u8]) {
 pub(crate) fn paint(tape: &[u8], memory: &mut [u8], block: &mut [u8], reply: &mut [u8]) {
     let strokes = strokes_of(tape);
     mottle(memory, strokes.mottled, strokes.seed);
-    ramp(memory, 0, strokes.plain, strokes.byte, 0);
+    ramp(
+        memory,
+        Board::LOGGER.flash_from(),
+        strokes.plain,
+        strokes.byte,
+        0,
+    );
     lay_options(tape, strokes.options, memory);
     ramp(memory, strokes.place, strokes.poked, strokes.poke, 0);
     ramp(block, 0, strokes.others, strokes.seed, 3);

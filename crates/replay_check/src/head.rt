@@ -1,9 +1,7 @@
 // The header of a job, and the head of a chunk of its text; numbers have their low byte first.
 ghost use Prim.Native.Nat.{_≤_};
-use board::Board;
 use buffer::byte_at;
 use numbers::pair;
-use request::Setup;
 
 pub const JOB: usize = 48;
 
@@ -19,8 +17,8 @@ const AGAIN: u8 = 3;
 // Where the card stands in a header.
 pub const CARD: usize = 8;
 
-// The right length of the checker's work area: two bytes for each of the memory, and a block.
-const WORK: u16 = (2 * Board::LOGGER_MEMORY) as u16 + Setup::TRANSFER;
+// The right length of the checker's work area.
+const WORK: u16 = marks::LOGGER_WORK as u16;
 
 // A header taken apart: the lengths, and what image and work area are made of.
 pub struct Job {
