@@ -24,7 +24,7 @@ use Rattle.states.specs.WellFormed.{inRegion, writeFits, pendingFits, statusFit
 use Rattle.access.specs.declared.Access.{Access}
 use Rattle.access.specs.declared.Access.the-variants.{Denied, InFlash, InRam, InOptions}
 use Rattle.access.specs.Access.{blockAccess}
-use Rattle.action.specs.Action.{pointOf, eraseAt, eraseOf, storeAt, actionIn, actionOf}
+use Rattle.action.specs.Action.{pointOf, eraseAt, eraseOf, storeAt, actionIn, actionOf, statusAction}
 use Rattle.access.proofs.Spans.{Reached, block-granted, granted-reached}
 use Rattle.action.specs.Reach.{Fits}
 
@@ -84,3 +84,8 @@ module _ (board : Board) (sound : Sound board) where
   action-fits protected d w =
       let p = and-true (inRegion board (d .pointer)) (pendingFits (d .mode) (d .pending) && statusFits (d .mode) (d .status)) w .1 in
       action-in-fits protected (d .pointer) (d .mode) (d .pending) (and-true (pendingFits (d .mode) (d .pending)) (statusFits (d .mode) (d .status)) p .0)
+
+  pub status-action-fits : (protected : Bool) (d : Device) → wellFormed board d ≡ true → Fits board (statusAction board protected d)
+  unfolding statusAction
+  status-action-fits protected d w =
+      by-bool (isMode 3 (d .mode)) (λ e. rw e (action-fits protected d w)) (λ e. rw e (record { ends = omega arith; pages = omega arith; count = omega arith }))

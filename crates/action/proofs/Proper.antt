@@ -9,6 +9,8 @@ use Rattle.board.specs.declared.Place.{Place}
 use Rattle.board.specs.declared.Place.the-variants.{Flash, Ram, Options, Outside}
 use Rattle.board.specs.Span.{placeOf}
 use Rattle.mode.specs.declared.Mode.the-variants.{Error}
+use Rattle.mode.specs.Wire.{isMode}
+use Rattle.device.specs.declared.Device.{Device}
 use Rattle.device.specs.declared.Pending.{Pending}
 use Rattle.device.specs.declared.Pending.the-variants.{Nothing, SetPointer, ErasePage, MassErase, ReadUnprotect, Write}
 use Rattle.states.specs.WellFormed.{inRegion, statusFits}
@@ -18,7 +20,7 @@ use Rattle.access.specs.declared.Access.the-variants.{Denied, InFlash, InRam, I
 use Rattle.access.specs.Access.{blockAccess}
 use Rattle.action.specs.declared.Action.{Action}
 use Rattle.action.specs.declared.Action.the-variants.{Rest, Fail, Point, Erase, EraseAll, Unprotect, ClearRam, StoreFlash, StoreRam, StoreOptions}
-use Rattle.action.specs.Action.{pointOf, eraseAt, storeAt, actionIn, movedOf, ranOf}
+use Rattle.action.specs.Action.{pointOf, eraseAt, storeAt, actionIn, actionOf, statusAction, movedOf, ranOf}
 use Rattle.action.proofs.Denials.{Refusing, block-refusing}
 
 -- an action whose own status is one of the error mode's, and whose pointer lies in a region
@@ -49,7 +51,7 @@ erase-at-proper board (Ram at) = refl
 erase-at-proper board (Options at) = refl
 erase-at-proper board Outside = refl
 
-pub action-proper : (board : Board) (protected : Bool) (pointer : ℕ) (pending : Pending) → Proper board (actionIn pending board protected pointer)
+action-proper : (board : Board) (protected : Bool) (pointer : ℕ) (pending : Pending) → Proper board (actionIn pending board protected pointer)
 action-proper board protected pointer Nothing = tt
 action-proper board protected pointer (SetPointer address) = point-proper board address
 action-proper board true pointer (ErasePage address) = refl
@@ -60,6 +62,11 @@ action-proper board true pointer ReadUnprotect = tt
 action-proper board false pointer ReadUnprotect = tt
 action-proper board protected pointer (Write block count) =
     store-proper board count (blockAccess board protected block count pointer) (block-refusing board protected block count pointer)
+
+pub status-action-proper : (board : Board) (protected : Bool) (d : Device) → Proper board (statusAction board protected d)
+unfolding statusAction actionOf
+status-action-proper board protected d =
+    by-bool (isMode 3 (d .mode)) (λ e. rw e (action-proper board protected (d .pointer) (d .pending))) (λ e. rw e tt)
 
 -- an action that ran without error
 pub went-well : (board : Board) (pointer : ℕ) (action : Action) → inRegion board (movedOf action pointer) ≡ true → Sane board (ranOf action pointer 0)

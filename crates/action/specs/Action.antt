@@ -1,5 +1,5 @@
 -- What a pending command would do to memory, pointer and mode. Document 01, the paragraphs from "Read and write checks" to "Read unprotect". Assumes nothing.
-use mathlib.Core.Bool.{Bool, true, false, cond, _&&_}
+use mathlib.Core.Bool.{Bool, true, false, cond}
 use Prim.Native.Nat.{ℕ}
 use Rattle.board.specs.declared.Board.{Board}
 use Rattle.board.specs.declared.Place.{Place}
@@ -53,9 +53,13 @@ actionIn MassErase board protected pointer = cond protected (Fail errVENDOR) Era
 actionIn ReadUnprotect board protected pointer = cond protected Unprotect ClearRam
 actionIn (Write block count) board protected pointer = storeAt (blockAccess board protected block count pointer) count
 
--- "GETSTATUS", mode 3: what the device's pending command does
+-- what the device's pending command does
 unfoldable pub actionOf : Board → Bool → Device → Action
 actionOf board protected d = actionIn (d .pending) board protected (d .pointer)
+
+-- "GETSTATUS", "In mode 3 the command runs first": what a GETSTATUS runs; in the other modes nothing waits
+unfoldable pub statusAction : Board → Bool → Device → Action
+statusAction board protected d = cond (isMode 3 (d .mode)) (actionOf board protected d) Rest
 
 -- where the pointer is after an action
 abbrev pub movedOf : Action → ℕ → ℕ
@@ -87,9 +91,9 @@ rebootsOf (StoreOptions at count) = true
 abbrev pub ranOf : Action → ℕ → ℕ → Ran
 ranOf action pointer status = record { status = status; pointer = movedOf action pointer; reboots = rebootsOf action }
 
--- "GETSTATUS", "In mode 3 the command runs first": the action that a request runs which comes to this decision
+-- the action that a request runs which comes to this decision
 unfoldable pub dueOf : Board → Bool → Device → Decision → Action
-dueOf board protected d x = cond (isStatus x && isMode 3 (d .mode)) (actionOf board protected d) Rest
+dueOf board protected d x = cond (isStatus x) (statusAction board protected d) Rest
 
 -- so many bytes, to place `at` of memory on
 abbrev pub span : ℕ → ℕ → Span

@@ -43,11 +43,10 @@ pub struct Pages {
 pub fn due(board: Board, protected: bool, device: Device, setup: Setup) -> Action
     ensures { λ r. ⌜ ((k : Command) → r ≡ dueOf board protected device (decideOf device setup k)) ⌝ }
 {
-    let mode = device.mode;
     if !decision::asks_status(device, setup) {
         return Action::Rest;
     }
-    if mode.wire() != 3 {
+    if !device.waits() {
         return Action::Rest;
     }
     intend(board, protected, device)

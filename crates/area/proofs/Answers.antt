@@ -1,24 +1,23 @@
 -- Laws in the terms in which the functions over requests meet them. Assumes nothing.
 use mathlib.Core.Path.{_≡_, ap, _∙_, sym}
-use mathlib.Core.Bool.{Bool}
+use mathlib.Core.Bool.{Bool, true, false}
 use mathlib.Core.List.{List}
 use Prim.Native.Nat.{ℕ, _+_, _/_, _≤_}
 use native.Mathlib.Omega.{arith}
 use native.Mathlib.Nat.{add-zero}
 use lib.ListN.{length, getD, List·getD-eq-default}
-use borrow.Author.Tests.{ne-eqb}
 use Rattle.laws.specs.Bytes.{put}
 use Rattle.protection.specs.Protection.{readProtected}
 use Rattle.request.specs.Request.{transferBytes}
 use Rattle.request.specs.declared.Setup.{Setup}
 use Rattle.device.specs.declared.Device.{Device}
 use Rattle.device.specs.declared.Ran.{Ran}
-use Rattle.mode.specs.Wire.{wireOf}
-use Rattle.device.specs.State.{nothingRan}
+use Rattle.mode.specs.Wire.{isMode}
 use Rattle.access.specs.declared.Access.{Access}
 use Rattle.action.specs.declared.Action.{Action}
+use Rattle.action.specs.declared.Action.the-variants.{Rest}
 use Rattle.access.specs.Access.{blockAccess}
-use Rattle.action.specs.Action.{actionOf, ranOf}
+use Rattle.action.specs.Action.{actionOf, statusAction, ranOf}
 use Rattle.command.specs.declared.Command.{Command}
 use Rattle.decision.specs.declared.Decision.{Decision}
 use Rattle.command.specs.Command.{commandOf}
@@ -31,12 +30,12 @@ use Rattle.marks.proofs.View.{block-put}
 use Rattle.cells.specs.Cells.{Worked, worked, workedOf, reports, statusMoves, readMoves, readsMoves, decisionMoves, requestMoves}
 use Rattle.board.specs.declared.Board.{Board}
 
-pub status-rests : (board : Board) (d : Device) (w : Work) → (wireOf (d .mode) ≡ 3 → ⊥) → reports d (nothingRan d) w ≡ statusMoves board d w
-unfolding statusMoves
-status-rests board d w h = rw (ne-eqb (wireOf (d .mode)) 3 h)
+pub status-rests : (board : Board) (d : Device) (w : Work) (ran : Ran) → isMode 3 (d .mode) ≡ false → ran ≡ ranOf Rest (d .pointer) 0 → reports d ran w ≡ statusMoves board d w
+unfolding statusMoves statusAction
+status-rests board d w ran h r = rw (r, h)
 
-pub status-runs : (board : Board) (d : Device) (w w′ : Work) (protected : Bool) (action : Action) (status : ℕ) (ran : Ran) → wireOf (d .mode) ≡ 3 → protected ≡ readProtected board (w .values) → action ≡ actionOf board protected d → worked status w′ ≡ workedOf board action w → ran ≡ ranOf action (d .pointer) status → reports d ran w′ ≡ statusMoves board d w
-unfolding statusMoves
+pub status-runs : (board : Board) (d : Device) (w w′ : Work) (protected : Bool) (action : Action) (status : ℕ) (ran : Ran) → isMode 3 (d .mode) ≡ true → protected ≡ readProtected board (w .values) → action ≡ actionOf board protected d → worked status w′ ≡ workedOf board action w → ran ≡ ranOf action (d .pointer) status → reports d ran w′ ≡ statusMoves board d w
+unfolding statusMoves statusAction
 status-runs board d w w′ protected action status ran m p a f r =
     rw (m, ← p, ← a, r) (ap (λ (x : Worked). reports d (ranOf action (d .pointer) (x .status)) (x .work)) f)
 

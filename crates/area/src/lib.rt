@@ -15,6 +15,7 @@ ghost use Rattle.marks.specs.Area.{workBytes};
 ghost use Rattle.marks.specs.Work.{Work, workOf};
 ghost use Rattle.cells.specs.Cells.{reports, statusMoves, readsMoves, requestMoves};
 use access::Access;
+use action::Action;
 use board::Board;
 use command::Command;
 use decision::Decision;
@@ -62,9 +63,9 @@ fn status(board: Board, device: Device, work: &mut [u8]) -> Step
     requires { ⌜ Sound board × (length (now work) ≡ workBytes board) × (wellFormed board device ≡ true) ⌝ }
     ensures { λ r. ⌜ movedAs r (workOf board (now (work .exit))) ≡ statusMoves board device (workOf board (now (work .entry))) ⌝ }
 {
-    let mode = device.mode;
-    if mode.wire() != 3 {
-        return report(device, device.nothing_ran());
+    if !device.waits() {
+        let rest = Action::Rest;
+        return report(device, rest.ran(device.pointer, 0));
     }
     let protected = read_protected(board, work);
     let action = action::intend(board, protected, device);

@@ -16,7 +16,7 @@ use Rattle.states.specs.WellFormed.{inRegion, wellFormed}
 use Rattle.command.specs.Command.{commandOf}
 use Rattle.decision.specs.Decide.{commandedOf, downloadOf, uploadOf, decideOf}
 use Rattle.access.specs.Access.{blockAddress, accessOf, blockAccess}
-use Rattle.action.specs.Action.{actionOf}
+use Rattle.action.specs.Action.{actionOf, statusAction}
 use Rattle.flash.specs.Flash.{each, blank, laid, stored, erased}
 use Rattle.loader.specs.declared.Event.the-variants as event
 use Rattle.loader.specs.Answer.{Outcome}
@@ -57,7 +57,7 @@ stateOf o = state (o .answer ++ take (getD (o .answer) 1 0) (o .reply)) (o .devi
 
 -- what a deed comes to: by the promises' own definitions, and by `verdictOf`, which the law `judged` ties to the promised verdict
 unfoldable pub found : Deed → Finding
-unfolding put filled flashPages pageBytes pageOffset flashBytes flashFirst flashFrom ramFirst ramBytes ramFrom optionsFirst optionsFrom memoryBytes pageAt optionsOf spans placeOf lockedFrom wordFrom readProtected wordOf writeProtected outwardOf inwardOf requestOf setupOf dataLength fitsOf allowedOf afterStatus reportOf inRegion wellFormed commandOf commandedOf downloadOf uploadOf decideOf blockAddress accessOf blockAccess actionOf each blank laid stored erased runOf statusOf uploadedOf serveOf firstOf admittedOf stepOf overOf endFails lowestFrom endNumber endVerdict verdictOf
+unfolding put filled flashPages pageBytes pageOffset flashBytes flashFirst flashFrom ramFirst ramBytes ramFrom optionsFirst optionsFrom memoryBytes pageAt optionsOf spans placeOf lockedFrom wordFrom readProtected wordOf writeProtected outwardOf inwardOf requestOf setupOf dataLength fitsOf allowedOf afterStatus reportOf inRegion wellFormed commandOf commandedOf downloadOf uploadOf decideOf blockAddress accessOf blockAccess actionOf statusAction each blank laid stored erased runOf statusOf uploadedOf serveOf firstOf admittedOf stepOf overOf endFails lowestFrom endNumber endVerdict verdictOf
 found (locate value pointer) = address (blockAddress transferBytes value pointer)
 found (ask qs m) = stateOf (asked qs (attached m))
 found (check es image card) = judgement (verdictOf logger es image card (workOf logger (replicate (workBytes logger) 0)))

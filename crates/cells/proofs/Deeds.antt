@@ -12,8 +12,7 @@ use Rattle.request.specs.declared.Setup.{Setup}
 use Rattle.request.specs.Setup.{setupOf}
 use Rattle.device.specs.declared.Device.{Device}
 use Rattle.device.specs.declared.Ran.{Ran}
-use Rattle.device.specs.State.{reportOf, nothingRan}
-use Rattle.mode.specs.Wire.{isMode}
+use Rattle.device.specs.State.{reportOf}
 use Rattle.command.specs.Command.{commandOf}
 use Rattle.decision.specs.declared.Decision.{Decision}
 use Rattle.decision.specs.declared.Decision.the-variants as decided
@@ -21,7 +20,7 @@ use Rattle.decision.specs.Decide.{decideOf}
 use Rattle.access.specs.declared.Access.{Access}
 use Rattle.access.specs.declared.Access.the-variants.{Denied, InFlash, InRam, InOptions}
 use Rattle.access.specs.Access.{blockAccess}
-use Rattle.action.specs.Action.{actionOf, dueOf, ranOf}
+use Rattle.action.specs.Action.{statusAction, dueOf, ranOf}
 use Rattle.line.specs.Event.{request}
 use Rattle.marks.specs.Work.{Work, known}
 use Rattle.marks.proofs.Known.{blocked-known}
@@ -57,9 +56,8 @@ module _ (board : Board) (d : Device) (s : Setup) (xs : List ℕ) (w : Work) whe
   decided-does decided.Read = read-leaves (blockAccess board (readProtected board (w .values)) (s .value) (s .length) (d .pointer))
   decided-does decided.State = record { values = refl; knows = λ i. refl }
   decided-does decided.Status =
-      let action = actionOf board (readProtected board (w .values)) d in
-      by-bool (isMode 3 (d .mode)) (λ e. rw e (reports-leave (ranOf action (d .pointer) (workedOf board action w .status)) (workedOf board action w .work)))
-      (λ e. rw e (reports-leave (nothingRan d) w))
+      let action = statusAction board (readProtected board (w .values)) d in
+      reports-leave (ranOf action (d .pointer) (workedOf board action w .status)) (workedOf board action w .work)
 
 pub request-does-its-action : (board : Board) (d : Device) (q : List ℕ) (w : Work) (d′ : Device) (w′ : Work) → moves board d w (request q) ≡ goes d′ w′ → Same w′ (workedOf board (dueOf board (readProtected board (w .values)) d (decideOf d (setupOf q) (commandOf (drop 8 q)))) w .work)
 unfolding moves requestMoves

@@ -1,6 +1,6 @@
 -- An event on every board leads from a well-formed state to one. Assumes nothing.
 use mathlib.Core.Path.{_≡_, refl}
-use mathlib.Core.Bool.{true, true≢false}
+use mathlib.Core.Bool.{true}
 use mathlib.Core.List.{List}
 use Prim.Native.Nat.{ℕ}
 use lib.Dec.{T, eqb}
@@ -13,8 +13,7 @@ use Rattle.request.specs.Setup.{setupOf}
 use Rattle.mode.specs.declared.Mode.the-variants.{UploadIdle}
 use Rattle.device.specs.declared.Device.{Device}
 use Rattle.device.specs.declared.Ran.{Ran}
-use Rattle.mode.specs.Wire.{isMode}
-use Rattle.device.specs.State.{reportOf, nothingRan}
+use Rattle.device.specs.State.{reportOf}
 use Rattle.states.specs.WellFormed.{inRegion}
 use Rattle.states.proofs.Form.{Form, Sane, Calm, started-form, entered-form, after-status-form}
 use Rattle.decision.specs.declared.Decision.{Decision}
@@ -27,8 +26,8 @@ use Rattle.access.specs.declared.Access.the-variants.{Denied, InFlash, InRam, I
 use Rattle.action.specs.declared.Action.{Action}
 use Rattle.action.specs.declared.Action.the-variants.{Rest, Fail, Point, Erase, EraseAll, Unprotect, ClearRam, StoreFlash, StoreRam, StoreOptions}
 use Rattle.access.specs.Access.{blockAccess}
-use Rattle.action.specs.Action.{actionIn, actionOf, ranOf}
-use Rattle.action.proofs.Proper.{Proper, action-proper, went-well}
+use Rattle.action.specs.Action.{statusAction, ranOf}
+use Rattle.action.proofs.Proper.{Proper, status-action-proper, went-well}
 use Rattle.line.specs.Event.{Event, attach, request}
 use Rattle.marks.specs.Work.{Work}
 use Rattle.cells.specs.Cells.{surely, workedOf, Moved, falls, goes, reports, statusMoves, readMoves, readsMoves, decisionMoves, requestMoves, moves}
@@ -60,12 +59,11 @@ module _ (board : Board) (d : Device) (f : Form board d) where
       by-bool (eqb (reportOf d ran .status) 0) (λ e. rw e (after-status-form board d ran f s)) (λ e. rw e tt)
 
   status-in-form : (w : Work) → InForm board (statusMoves board d w)
-  unfolding statusMoves actionOf
+  unfolding statusMoves
   status-in-form w =
-      let action = actionIn (d .pending) board (readProtected board (w .values)) (d .pointer) in
-      by-bool (isMode 3 (d .mode))
-      (λ e. rw e (reports-in-form (ranOf action (d .pointer) (workedOf board action w .status)) (workedOf board action w .work) (worked-sane board (d .pointer) w (f .pointer) action (action-proper board (readProtected board (w .values)) (d .pointer) (d .pending)))))
-      (λ e. rw e (reports-in-form (nothingRan d) w (record { well = λ z. f .pointer; ill = λ z. absurd (true≢false z) })))
+      let action = statusAction board (readProtected board (w .values)) d in
+      reports-in-form (ranOf action (d .pointer) (workedOf board action w .status)) (workedOf board action w .work)
+      (worked-sane board (d .pointer) w (f .pointer) action (status-action-proper board (readProtected board (w .values)) d))
 
   read-in-form : (access : Access) (w : Work) → Calm (d .mode) → InForm board (readMoves access d w)
   read-in-form (Denied status) w c = tt

@@ -15,8 +15,8 @@ use Rattle.request.specs.Setup.{setupOf}
 use Rattle.mode.specs.declared.Mode.the-variants.{UploadIdle}
 use Rattle.device.specs.declared.Device.{Device}
 use Rattle.device.specs.declared.Ran.{Ran}
-use Rattle.mode.specs.Wire.{errWRITE, isMode}
-use Rattle.device.specs.State.{started, entered, afterStatus, reportOf, nothingRan}
+use Rattle.mode.specs.Wire.{errWRITE}
+use Rattle.device.specs.State.{started, entered, afterStatus, reportOf}
 use Rattle.decision.specs.declared.Decision.{Decision}
 use Rattle.decision.specs.declared.Decision.the-variants as decided
 use Rattle.command.specs.Command.{commandOf}
@@ -26,7 +26,7 @@ use Rattle.access.specs.declared.Access.the-variants.{Denied, InFlash, InRam, I
 use Rattle.action.specs.declared.Action.{Action}
 use Rattle.action.specs.declared.Action.the-variants.{Rest, Fail, Point, Erase, EraseAll, Unprotect, ClearRam, StoreFlash, StoreRam, StoreOptions}
 use Rattle.access.specs.Access.{blockAccess}
-use Rattle.action.specs.Action.{actionOf, ranOf}
+use Rattle.action.specs.Action.{statusAction, ranOf}
 use Rattle.flash.specs.Flash.{kept, blank, stored}
 use Rattle.line.specs.Event.{Event, attach, request}
 use Rattle.marks.specs.Work.{Work, known, valued, blocked, learnt}
@@ -104,9 +104,7 @@ runs board action d w = reports d (ranOf action (d .pointer) (workedOf board act
 
 -- a GETSTATUS in any mode
 unfoldable pub statusMoves : Board → Device → Work → Moved
-statusMoves board d w =
-    cond (isMode 3 (d .mode)) (runs board (actionOf board (readProtected board (w .values)) d) d w)
-    (reports d (nothingRan d) w)
+statusMoves board d w = runs board (statusAction board (readProtected board (w .values)) d) d w
 
 -- an UPLOAD by what its checks say
 abbrev pub readMoves : Access → Device → Work → Moved

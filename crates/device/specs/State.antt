@@ -1,5 +1,5 @@
 -- The state, and where the events that need no memory take it. Document 01, "Events". Assumes nothing.
-use mathlib.Core.Bool.{cond, false}
+use mathlib.Core.Bool.{cond}
 use Prim.Native.Nat.{ℕ}
 use lib.Dec.{eqb}
 use Rattle.board.specs.declared.Board.{Board}
@@ -31,10 +31,6 @@ stalled d status = failed d (cond (isMode 10 (d .mode)) (d .status) status)
 -- the same device in another mode
 abbrev pub entered : Device → Mode → Device
 entered d mode = record { mode = mode; status = d .status; pointer = d .pointer; pending = d .pending }
-
--- what ran in a mode in which nothing waits: nothing, with status 0 and the pointer as it was
-abbrev pub nothingRan : Device → Ran
-nothingRan d = record { status = 0; pointer = d .pointer; reboots = false }
 
 -- "GETSTATUS", mode 3, once the command ran: "on error the mode becomes 10 with that status .. Without error the mode then is 4, or Rebooting"
 abbrev pub finished : Device → Ran → Device

@@ -1,6 +1,7 @@
 // The device's state, by value, and where the events that need no memory take it.
 ghost use mathlib.Core.Path.{_≡_};
-ghost use Rattle.device.specs.State.{started, nothingRan, idled, failed, stalled, entered, finished, ranReport, reportOf, afterStatus};
+ghost use Rattle.mode.specs.Wire.{isMode};
+ghost use Rattle.device.specs.State.{started, idled, failed, stalled, entered, finished, ranReport, reportOf, afterStatus};
 use board::Board;
 use mode::Mode;
 
@@ -105,15 +106,12 @@ impl Device {
         Device { mode, ..self }
     }
 
-    // What ran where nothing waits.
-    pub fn nothing_ran(self) -> Ran
-        ensures { λ r. ⌜ r ≡ nothingRan self ⌝ }
+    // Does a command wait for a GETSTATUS to run it?
+    pub fn waits(self) -> bool
+        ensures { λ r. ⌜ r ≡ isMode 3 (self .mode) ⌝ }
     {
-        Ran {
-            status: 0,
-            pointer: self.pointer,
-            reboots: false,
-        }
+        let mode = self.mode;
+        mode.wire() == 3
     }
 
     // The state after a GETSTATUS, `ran` being what the pending command came to.

@@ -19,18 +19,19 @@ use Rattle.device.specs.declared.Pending.the-variants.{Nothing, SetPointer, Era
 use Rattle.device.specs.declared.Device.{Device}
 use Rattle.device.specs.declared.Ran.{Ran}
 use Rattle.mode.specs.Wire.{isMode}
-use Rattle.device.specs.State.{afterStatus, reportOf, nothingRan}
+use Rattle.device.specs.State.{afterStatus, reportOf}
 use Rattle.states.specs.WellFormed.{inRegion}
 use Rattle.states.proofs.Form.{Form, well-formed}
 use Rattle.action.specs.declared.Action.{Action}
+use Rattle.action.specs.declared.Action.the-variants.{Rest}
 use Rattle.access.specs.declared.Access.{Access}
 use Rattle.access.specs.declared.Access.the-variants.{Denied, InFlash, InRam, InOptions}
 use Rattle.access.specs.Access.{blockAccess}
-use Rattle.action.specs.Action.{storeAt, eraseAt, actionIn, actionOf, ranOf, writesOf}
+use Rattle.action.specs.Action.{storeAt, eraseAt, actionIn, actionOf, statusAction, ranOf, writesOf}
 use Rattle.perform.specs.Perform.{performedOf}
 use Rattle.loader.specs.Serve.{Run, run, runOf}
 use Rattle.action.specs.Reach.{Fits}
-use Rattle.action.proofs.Bounds.{action-fits}
+use Rattle.action.proofs.Bounds.{status-action-fits}
 use Rattle.marks.specs.Work.{Work}
 use Rattle.cells.specs.Cells.{falls, goes, workedOf, reports, statusMoves}
 use Rattle.cells.proofs.Likeness.{Alike}
@@ -111,67 +112,55 @@ module _ (d : Device) (ran : Ran) (sync : isMode 3 (d .mode) ≡ true) where
   unfolding reportOf
   sync-ill e = by-bool (eqb (ran .status) 0) (λ z. absurd (true≢false (rw (sync, z) at e))) (λ z. z)
 
-  sync-shows : eqb (ran .status) 0 ≡ false → reportOf d ran .status ≡ ran .status
-  unfolding reportOf
-  sync-shows z = rw (sync, z)
-
 module _ (board : Board) (sound : Sound board) (d : Device) (b m₀ m : List ℕ) (w : Work) (f : Form board d) (held : Held (d .pending) b w) (s : Alike board m₀ m w) where
   action : Action
-  action = actionOf board (readProtected board (w .values)) d
+  action = statusAction board (readProtected board (w .values)) d
 
   fits : Fits board action
   unfolding action
-  fits = action-fits board sound (readProtected board (w .values)) d (well-formed board d f)
+  fits = status-action-fits board sound (readProtected board (w .values)) d (well-formed board d f)
 
   has : take (writesOf action .count) b ≡ take (writesOf action .count) (w .block)
-  unfolding action actionOf
-  has = action-has board b w (readProtected board (w .values)) (d .pointer) (d .pending) held
+  unfolding action statusAction actionOf
+  has =
+      by-bool (isMode 3 (d .mode)) (λ e. rw e (action-has board b w (readProtected board (w .values)) (d .pointer) (d .pending) held)) (λ e. rw e)
 
-  -- in mode 3 the board runs the action that was decided for all
-  run-acts : isMode 3 (d .mode) ≡ true → runOf board d b m ≡ run (ranOf action (d .pointer) (performedOf board action b m .status)) (performedOf board action b m .memory)
+  rests : isMode 3 (d .mode) ≡ false → action ≡ Rest
+  unfolding action statusAction
+  rests e = rw e
+
+  -- the board runs the action that was decided for all
+  run-acts : runOf board d b m ≡ run (ranOf action (d .pointer) (performedOf board action b m .status)) (performedOf board action b m .memory)
   unfolding runOf action
-  run-acts e = rw (e, protection-same board sound m₀ m w s)
+  run-acts = rw (protection-same board sound m₀ m w s)
 
-  run-rests : isMode 3 (d .mode) ≡ false → runOf board d b m ≡ run (nothingRan d) m
-  unfolding runOf
-  run-rests e = rw e
+  -- what running it came to for all
+  abbrev ran : Ran
+  ran = ranOf action (d .pointer) (workedOf board action w .status)
+
+  acts-well : reportOf d ran .status ≡ 0 → workedOf board action w .status ≡ 0
+  acts-well e = by-bool (isMode 3 (d .mode)) (λ y. sync-well d ran y e) (λ y. rw (rests y))
+
+  acts-ill : Zeros board m₀ → eqb (reportOf d ran .status) 0 ≡ false → performedOf board action b m .status ≡ workedOf board action w .status
+  acts-ill z e =
+      by-bool (isMode 3 (d .mode)) (λ y. performs-ill board sound b m₀ m w s z action fits has (sync-ill d ran y e)) (λ y. rw (rests y))
 
   pub status-goes : (d′ : Device) (w′ : Work) → statusMoves board d w ≡ goes d′ w′ → Ran′ board d b m₀ m w d′ w′
   unfolding statusMoves action
   status-goes d′ w′ e =
-      by-bool (isMode 3 (d .mode))
-      (λ y.
-      let ran : Ran = ranOf action (d .pointer) (workedOf board action w .status) in
-      let r = reports-zero d d′ ran (workedOf board action w .work) w′ (rw y at e) in
-      let well : workedOf board action w .status ≡ 0 = sync-well d ran y (r .0) in
+      let r = reports-zero d d′ ran (workedOf board action w .work) w′ e in
+      let well = acts-well (r .0) in
       let p = performs-well board sound b m₀ m w s action fits has well in
-      let same : runOf board d b m .ran ≡ ran = ap (λ (x : Run). x .ran) (run-acts y) ∙ ap (ranOf action (d .pointer)) (p .status ∙ sym well) in
+      let same : runOf board d b m .ran ≡ ran = ap (λ (x : Run). x .ran) run-acts ∙ ap (ranOf action (d .pointer)) (p .status ∙ sym well) in
       record {
         report = ap (λ (x : Ran). reportOf d x .status) same ∙ r .0;
         device = ap (afterStatus d) same ∙ r .1;
-        alike = rw (ap (λ (x : Run). x .memory) (run-acts y), sym (r .2)) (p .alike);
-      })
-      (λ y.
-      let ran : Ran = nothingRan d in
-      let r = reports-zero d d′ ran w w′ (rw y at e) in
-      let same : runOf board d b m .ran ≡ ran = ap (λ (x : Run). x .ran) (run-rests y) in
-      record {
-        report = ap (λ (x : Ran). reportOf d x .status) same ∙ r .0;
-        device = ap (afterStatus d) same ∙ r .1;
-        alike = rw (ap (λ (x : Run). x .memory) (run-rests y), sym (r .2)) s;
-      })
+        alike = rw (ap (λ (x : Run). x .memory) run-acts, sym (r .2)) (p .alike);
+      }
 
   pub status-falls : Zeros board m₀ → statusMoves board d w ≡ falls → eqb (reportOf d (runOf board d b m .ran) .status) 0 ≡ false
   unfolding statusMoves action
   status-falls z e =
-      by-bool (isMode 3 (d .mode))
-      (λ y.
-      let ran : Ran = ranOf action (d .pointer) (workedOf board action w .status) in
-      let ill = sync-ill d ran y (reports-falls d ran (workedOf board action w .work) (rw y at e)) in
-      let p = performs-ill board sound b m₀ m w s z action fits has ill in
-      let same : runOf board d b m .ran ≡ ran = ap (λ (x : Run). x .ran) (run-acts y) ∙ ap (ranOf action (d .pointer)) p in
-      ap (λ (x : Ran). eqb (reportOf d x .status) 0) same ∙ rw (sync-shows d ran y ill) ill)
-      (λ y.
-      let ran : Ran = nothingRan d in
-      let same : runOf board d b m .ran ≡ ran = ap (λ (x : Run). x .ran) (run-rests y) in
-      ap (λ (x : Ran). eqb (reportOf d x .status) 0) same ∙ reports-falls d ran w (rw y at e))
+      let ill = reports-falls d ran (workedOf board action w .work) e in
+      let same : runOf board d b m .ran ≡ ran = ap (λ (x : Run). x .ran) run-acts ∙ ap (ranOf action (d .pointer)) (acts-ill z ill) in
+      ap (λ (x : Ran). eqb (reportOf d x .status) 0) same ∙ ill

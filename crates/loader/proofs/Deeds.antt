@@ -3,12 +3,10 @@ use mathlib.Core.Path.{_≡_, refl}
 use mathlib.Core.List.{List}
 use Prim.Native.Nat.{ℕ}
 use lib.ListN.{drop}
-use Rattle.laws.proofs.Split.{by-bool}
 use Rattle.board.specs.declared.Board.{Board}
 use Rattle.protection.specs.Protection.{readProtected}
 use Rattle.request.specs.Setup.{setupOf}
 use Rattle.device.specs.declared.Device.{Device}
-use Rattle.mode.specs.Wire.{isMode}
 use Rattle.command.specs.Command.{commandOf}
 use Rattle.decision.specs.declared.Decision.{Decision}
 use Rattle.decision.specs.declared.Decision.the-variants as decided
@@ -36,7 +34,7 @@ module _ (board : Board) (d : Device) (q m b y : List ℕ) where
   decided-does (decided.Commands next count) = refl
   decided-does decided.Read = read-keeps (blockAccess board (readProtected board m) (setupOf q .value) (setupOf q .length) (d .pointer)) (setupOf q .length)
   decided-does decided.State = refl
-  decided-does decided.Status = by-bool (isMode 3 (d .mode)) (λ e. rw e) (λ e. rw e)
+  decided-does decided.Status = refl
 
   pub request-does-its-action : serveOf board d q m b y .memory ≡ performedOf board (dueOf board (readProtected board m) d (decideOf d (setupOf q) (commandOf (drop 8 q)))) b m .memory
   unfolding serveOf

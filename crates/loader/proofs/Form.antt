@@ -1,17 +1,14 @@
 -- A step from a well-formed state leads to one. Assumes nothing.
 use mathlib.Core.Path.{refl}
-use mathlib.Core.Bool.{true≢false}
 use mathlib.Core.List.{List}
 use Prim.Native.Nat.{ℕ}
 use lib.ListN.{drop}
-use Rattle.laws.proofs.Split.{by-bool}
 use Rattle.board.specs.declared.Board.{Board}
 use Rattle.board.specs.Sound.{Sound}
 use Rattle.protection.specs.Protection.{readProtected}
 use Rattle.request.specs.Setup.{setupOf}
 use Rattle.mode.specs.declared.Mode.the-variants.{UploadIdle}
 use Rattle.device.specs.declared.Device.{Device}
-use Rattle.mode.specs.Wire.{isMode}
 use Rattle.states.proofs.Form.{Form, Sane, Calm, started-form, stalled-form, entered-form, after-status-form}
 use Rattle.decision.specs.declared.Decision.{Decision}
 use Rattle.decision.specs.declared.Decision.the-variants as decided
@@ -22,8 +19,8 @@ use Rattle.access.specs.declared.Access.{Access}
 use Rattle.access.specs.declared.Access.the-variants.{Denied, InFlash, InRam, InOptions}
 use Rattle.access.specs.Access.{blockAccess}
 use Rattle.action.proofs.Denials.{Refusing, block-refusing}
-use Rattle.action.proofs.Proper.{action-proper}
-use Rattle.action.specs.Action.{actionIn, actionOf}
+use Rattle.action.proofs.Proper.{status-action-proper}
+use Rattle.action.specs.Action.{statusAction}
 use Rattle.perform.proofs.Sane.{performed-sane}
 use Rattle.loader.specs.declared.Event.{Event}
 use Rattle.loader.specs.declared.Event.the-variants as event
@@ -34,11 +31,9 @@ use Rattle.loader.specs.Step.{sizesOf, admittedOf, steps, stepOf}
 
 module _ (board : Board) (d : Device) (m b y : List ℕ) (f : Form board d) where
   run-sane : Sane board (runOf board d b m .ran)
-  unfolding runOf actionOf
+  unfolding runOf
   run-sane =
-      by-bool (isMode 3 (d .mode))
-      (λ e. rw e (performed-sane board (d .pointer) b m (f .pointer) (actionIn (d .pending) board (readProtected board m) (d .pointer)) (action-proper board (readProtected board m) (d .pointer) (d .pending))))
-      (λ e. rw e (record { well = λ z. f .pointer; ill = λ z. absurd (true≢false z) }))
+      performed-sane board (d .pointer) b m (f .pointer) (statusAction board (readProtected board m) d) (status-action-proper board (readProtected board m) d)
 
   status-form : Form board (statusOf board d m b y .device)
   unfolding statusOf

@@ -18,7 +18,7 @@ use Rattle.device.specs.declared.Device.{Device}
 use Rattle.device.specs.declared.Ran.{Ran}
 use Rattle.device.specs.declared.Report.{Report}
 use Rattle.mode.specs.Wire.{isMode}
-use Rattle.device.specs.State.{afterStatus, reportOf, nothingRan}
+use Rattle.device.specs.State.{afterStatus, reportOf}
 use Rattle.command.specs.declared.Command.{Command}
 use Rattle.decision.specs.declared.Decision.{Decision}
 use Rattle.decision.specs.declared.Decision.the-variants.{Read}
@@ -26,8 +26,9 @@ use Rattle.command.specs.Command.{commandOf}
 use Rattle.decision.specs.Decide.{decideOf}
 use Rattle.access.specs.declared.Access.{Access}
 use Rattle.action.specs.declared.Action.{Action}
+use Rattle.action.specs.declared.Action.the-variants.{Rest}
 use Rattle.access.specs.Access.{blockAccess}
-use Rattle.action.specs.Action.{actionOf, ranOf}
+use Rattle.action.specs.Action.{actionOf, statusAction, ranOf}
 use Rattle.access.proofs.Spans.{Reached, block-granted, granted-reached}
 use Rattle.perform.specs.Perform.{Performed, performed, performedOf}
 use Rattle.loader.specs.declared.Answer.the-variants.{Reply}
@@ -35,13 +36,13 @@ use Rattle.loader.specs.Answer.{outcome}
 use Rattle.loader.specs.Serve.{Run, run, runOf, statusBytes, reported, statusOf, readAt, uploadedOf, actedOf, serveOf}
 
 -- nothing runs outside mode 3
-pub run-rests : (board : Board) (d : Device) (b m : List ℕ) → isMode 3 (d .mode) ≡ false → run (nothingRan d) m ≡ runOf board d b m
-unfolding runOf
-run-rests board d b m h = rw h
+pub run-rests : (board : Board) (d : Device) (b m : List ℕ) (ran : Ran) → isMode 3 (d .mode) ≡ false → ran ≡ ranOf Rest (d .pointer) 0 → run ran m ≡ runOf board d b m
+unfolding runOf statusAction
+run-rests board d b m ran h r = rw (r, h)
 
 -- in mode 3 the action of the pending command does
 pub run-performs : (board : Board) (d : Device) (b m m′ : List ℕ) (protected : Bool) (action : Action) (status : ℕ) (ran : Ran) → isMode 3 (d .mode) ≡ true → protected ≡ readProtected board m → action ≡ actionOf board protected d → performed status m′ ≡ performedOf board action b m → ran ≡ ranOf action (d .pointer) status → run ran m′ ≡ runOf board d b m
-unfolding runOf
+unfolding runOf statusAction
 run-performs board d b m m′ protected action status ran w p a f r =
     rw (w, ← p, ← a, r) (ap (λ (x : Performed). run (ranOf action (d .pointer) (x .status)) (x .memory)) f)
 

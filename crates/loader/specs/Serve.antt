@@ -13,8 +13,8 @@ use Rattle.device.specs.declared.Device.{Device}
 use Rattle.mode.specs.declared.Mode.the-variants.{UploadIdle}
 use Rattle.device.specs.declared.Ran.{Ran}
 use Rattle.device.specs.declared.Report.{Report}
-use Rattle.mode.specs.Wire.{wireOf, isMode}
-use Rattle.device.specs.State.{entered, stalled, afterStatus, reportOf, nothingRan}
+use Rattle.mode.specs.Wire.{wireOf}
+use Rattle.device.specs.State.{entered, stalled, afterStatus, reportOf}
 use Rattle.decision.specs.declared.Decision.{Decision}
 use Rattle.decision.specs.declared.Decision.the-variants as decided
 use Rattle.command.specs.Command.{commandOf}
@@ -23,7 +23,7 @@ use Rattle.access.specs.declared.Access.{Access}
 use Rattle.access.specs.declared.Access.the-variants.{Denied, InFlash, InRam, InOptions}
 use Rattle.action.specs.declared.Action.{Action}
 use Rattle.access.specs.Access.{blockAccess}
-use Rattle.action.specs.Action.{actionOf, ranOf}
+use Rattle.action.specs.Action.{statusAction, ranOf}
 use Rattle.perform.specs.Perform.{performedOf}
 use Rattle.loader.specs.declared.Answer.the-variants.{Accepted, Reply, Stall, Silent}
 use Rattle.loader.specs.Answer.{Outcome, outcome}
@@ -45,15 +45,13 @@ pub record Run : Type 0 where
 abbrev pub run : Ran → List ℕ → Run
 run r m = record { ran = r; memory = m }
 
--- the pending command, run on memory m
+-- an action, run on memory m
 abbrev pub performs : Board → Action → Device → List ℕ → List ℕ → Run
 performs board action d b m = run (ranOf action (d .pointer) (performedOf board action b m .status)) (performedOf board action b m .memory)
 
--- "In mode 3 the command runs first"; in the others nothing is pending
+-- "the command runs first"
 unfoldable pub runOf : Board → Device → List ℕ → List ℕ → Run
-runOf board d b m =
-    cond (isMode 3 (d .mode)) (performs board (actionOf board (readProtected board m) d) d b m)
-    (run (nothingRan d) m)
+runOf board d b m = performs board (statusAction board (readProtected board m) d) d b m
 
 -- "GETSTATUS", r being what ran
 abbrev pub reported : Run → Device → List ℕ → List ℕ → Outcome

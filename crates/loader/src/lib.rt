@@ -10,13 +10,13 @@ ghost use Rattle.refusal.specs.Order.{firstOf};
 ghost use Rattle.board.specs.Layout.{logger, memoryBytes};
 ghost use Rattle.board.specs.Sound.{Sound};
 ghost use Rattle.request.specs.Request.{transferBytes};
-ghost use Rattle.mode.specs.Wire.{isMode};
 ghost use Rattle.states.specs.WellFormed.{wellFormed};
 ghost use Rattle.loader.specs.Answer.{left};
 ghost use Rattle.loader.specs.Inner.{InOrder};
 ghost use Rattle.loader.specs.Serve.{run, runOf, statusBytes, statusOf, pollOf, uploadedOf, sentOf, serveOf, commandCodes};
 ghost use Rattle.loader.specs.Step.{misfits, admittedOf, stepOf};
 use access::Access;
+use action::Action;
 use board::Board;
 use command::Command;
 use decision::Decision;
@@ -237,19 +237,12 @@ fn run(board: Board, device: Device, memory: &mut [u8], block: &[u8]) -> Ran
     requires { ⌜ Sound board × (length (now memory) ≡ memoryBytes board) × (length (now block) ≡ transferBytes) × (wellFormed board device ≡ true) ⌝ }
     ensures { λ r. ⌜ run r (now (memory .exit)) ≡ runOf board device (now (block .entry)) (now (memory .entry)) ⌝ }
 {
-    if !waits(device) {
-        return device.nothing_ran();
+    if !device.waits() {
+        let rest = Action::Rest;
+        return rest.ran(device.pointer, 0);
     }
     let protected = protection::read_protected(board, memory);
     let action = action::intend(board, protected, device);
     let status = perform::perform(board, action, memory, block);
     action.ran(device.pointer, status)
-}
-
-// Does a command wait for this GETSTATUS?
-fn waits(device: Device) -> bool
-    ensures { λ r. ⌜ r ≡ isMode 3 (device .mode) ⌝ }
-{
-    let mode = device.mode;
-    mode.wire() == 3
 }

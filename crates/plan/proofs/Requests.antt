@@ -31,7 +31,7 @@ use Rattle.action.specs.declared.Action.{Action}
 use Rattle.action.specs.declared.Action.the-variants.{Point, Erase, StoreFlash}
 use Rattle.access.specs.Access.{accessOf}
 use Rattle.access.proofs.Theorems.{second-access-at-pointer}
-use Rattle.action.specs.Action.{actionIn, actionOf, movedOf, rebootsOf}
+use Rattle.action.specs.Action.{actionIn, actionOf, statusAction, movedOf, rebootsOf}
 use Rattle.flash.specs.Flash.{stored}
 use Rattle.line.specs.Event.{Event}
 use Rattle.marks.specs.Work.{Work, valued, blocked}
@@ -115,15 +115,15 @@ module _ (board : Board) (mode : Mode) (p : ℕ) (w : Work) (heard : isMode 0 mo
 module _ (board : Board) (p : ℕ) (w : Work) where
   -- GETSTATUS in modes 3, 4 and 6
   sync-moves : (pending : Pending) (action : Action) (w′ : Work) → actionIn pending board (readProtected board (w .values)) p ≡ action → rebootsOf action ≡ false → workedOf board action w ≡ worked 0 w′ → moves board (waiting pending p) w getStatus ≡ goes (resting DownloadBusy (movedOf action p)) w′
-  unfolding moves requestMoves setupOf decideOf requestOf inwardOf allowedOf statusMoves actionOf afterStatus reportOf
+  unfolding moves requestMoves setupOf decideOf requestOf inwardOf allowedOf statusMoves statusAction actionOf afterStatus reportOf
   sync-moves pending action w′ a r e = rw (a, e, r)
 
   busy-moves : moves board (resting DownloadBusy p) w getStatus ≡ goes (resting DownloadIdle p) w
-  unfolding moves requestMoves setupOf decideOf requestOf inwardOf allowedOf statusMoves afterStatus reportOf
+  unfolding moves requestMoves setupOf decideOf requestOf inwardOf allowedOf statusMoves statusAction afterStatus reportOf
   busy-moves = refl
 
   pub manifest-moves : moves board (resting ManifestSync p) w getStatus ≡ goes (resting Left p) w
-  unfolding moves requestMoves setupOf decideOf requestOf inwardOf allowedOf statusMoves afterStatus reportOf
+  unfolding moves requestMoves setupOf decideOf requestOf inwardOf allowedOf statusMoves statusAction afterStatus reportOf
   manifest-moves = refl
 
 -- an event that all boards get over

@@ -1,16 +1,17 @@
 -- `area::status` meets its contract. Assumes nothing.
 use Rattle.area.proofs.Answers.{status-rests, status-runs}
 use Rattle.action.proofs.Bounds.{action-fits}
+use borrow.Author.Tests.{not-true, not-false}
 use mathlib.Core.Path.{_∙_, sym}
 use borrow.Author.Needs.{needs}
 use Rattle.area.proofs.status.Statement.{statement}
 use Rattle.area.proofs.status.Tie as tie
 
-wire-requires : tie.Need-wire-requires
-wire-requires c κs = search needs
+waits-requires : tie.Need-waits-requires
+waits-requires c κs = search needs
 
-nothing-ran-requires : tie.Need-nothing-ran-requires
-nothing-ran-requires c κs = search needs
+ran-requires : tie.Need-ran-requires
+ran-requires c κs = search needs
 
 report-requires : tie.Need-report-requires
 report-requires c κs = search needs
@@ -18,7 +19,7 @@ report-requires c κs = search needs
 returns : tie.Need-returns
 returns c =
     let w = c .before .before in
-    c .report .ensures _ ∙ rw (c .before .nothing-ran .ensures) (status-rests _ _ _ (λ e. w .if1 .taken (w .before .wire .ensures ∙ e)))
+    c .report .ensures _ ∙ status-rests _ _ _ _ (sym (w .before .waits .ensures) ∙ not-true _ (w .if1 .taken)) (c .before .ran .ensures)
 
 read-protected-requires : tie.Need-read-protected-requires
 read-protected-requires c κs = search needs
@@ -33,8 +34,8 @@ act-requires c κs =
     let f = action-fits _ (s .pre .0) (i .before .read-protected .result) (s .args .device) (s .pre .2) in
     rw (i .intend .ensures) (s .pre .0, s .pre .1, f)
 
-ran-requires : tie.Need-ran-requires
-ran-requires c κs = search needs
+ran-requires-2 : tie.Need-ran-requires-2
+ran-requires-2 c κs = search needs
 
 report-requires-2 : tie.Need-report-requires-2
 report-requires-2 c κs = search needs
@@ -47,20 +48,20 @@ returns-2 c =
     let a = c .before .before .before .before in
     let i = a .before .before in
     let w = i .before .before .before in
-    c .report2 .ensures _ ∙ status-runs _ _ _ _ _ _ _ _ (sym (w .before .wire .ensures) ∙ w .if1 .left) (i .before .read-protected .ensures) (i .intend .ensures) (a .act .ensures) (c .before .ran .ensures)
+    c .report2 .ensures _ ∙ status-runs _ _ _ _ _ _ _ _ (sym (w .before .waits .ensures) ∙ not-false _ (w .if1 .left)) (i .before .read-protected .ensures) (i .intend .ensures) (a .act .ensures) (c .before .ran2 .ensures)
 
 pub status-spec : {M : Type 1} → statement M
 status-spec =
     tie.close
     (tie.spec
-    wire-requires
-    nothing-ran-requires
+    waits-requires
+    ran-requires
     report-requires
     returns
     read-protected-requires
     intend-requires
     act-requires
-    ran-requires
+    ran-requires-2
     report-requires-2
     same-length
     returns-2)

@@ -11,13 +11,13 @@ use Rattle.loader.proofs.run.Tie as tie
 waits-requires : tie.Need-waits-requires
 waits-requires c κs = search needs
 
-nothing-ran-requires : tie.Need-nothing-ran-requires
-nothing-ran-requires c κs = search needs
+ran-requires : tie.Need-ran-requires
+ran-requires c κs = search needs
 
 returns : tie.Need-returns
 returns c =
     let w = c .before in
-    rw (c .nothing-ran .ensures) (run-rests _ _ _ _ (sym (w .before .waits .ensures) ∙ not-true _ (w .if1 .taken)))
+    run-rests _ _ _ _ _ (sym (w .before .waits .ensures) ∙ not-true _ (w .if1 .taken)) (c .ran .ensures)
 
 read-protected-requires : tie.Need-read-protected-requires
 read-protected-requires c κs = search needs
@@ -31,8 +31,8 @@ perform-requires c κs =
     let f = action-fits _ (s .pre .0) (c .before .before .read-protected .result) (s .args .device) (s .pre .3) in
     rw (c .before .intend .ensures) (s .pre .0, s .pre .1, f, omega (arith, f .count))
 
-ran-requires : tie.Need-ran-requires
-ran-requires c κs = search needs
+ran-requires-2 : tie.Need-ran-requires-2
+ran-requires-2 c κs = search needs
 
 same-length : tie.Need-same-length
 same-length c = search needs
@@ -42,18 +42,18 @@ returns-2 c =
     let p = c .before .before .before in
     let a = p .before .before in
     let w = a .before .before .before in
-    run-performs _ _ _ _ _ _ _ _ _ (sym (w .before .waits .ensures) ∙ not-false _ (w .if1 .left)) (a .before .read-protected .ensures) (a .intend .ensures) (p .perform .ensures) (c .ran .ensures)
+    run-performs _ _ _ _ _ _ _ _ _ (sym (w .before .waits .ensures) ∙ not-false _ (w .if1 .left)) (a .before .read-protected .ensures) (a .intend .ensures) (p .perform .ensures) (c .ran2 .ensures)
 
 pub run-spec : {M : Type 1} → statement M
 run-spec =
     tie.close
     (tie.spec
     waits-requires
-    nothing-ran-requires
+    ran-requires
     returns
     read-protected-requires
     intend-requires
     perform-requires
-    ran-requires
+    ran-requires-2
     same-length
     returns-2)

@@ -1,7 +1,7 @@
--- `loader::waits` meets its contract. Assumes nothing.
+-- `device::Device::waits` meets its contract. Assumes nothing.
 use borrow.Author.Needs.{needs}
-use Rattle.loader.proofs.waits.Statement.{statement}
-use Rattle.loader.proofs.waits.Tie as tie
+use Rattle.device.proofs.Device.waits.Statement.{statement}
+use Rattle.device.proofs.Device.waits.Tie as tie
 
 wire-requires : tie.Need-wire-requires
 wire-requires c κs = search needs
