@@ -1,4 +1,6 @@
 // What a span of addresses may be used for: the address of a block, and the checks that a read and a write share.
+#![tactic(auto)]
+
 ghost use Rattle.std.specs.Prelude.{◌≡◌, cond, ltb};
 ghost use Rattle.request.specs.Request.{transfer_bytes};
 ghost use Rattle.mode.specs.Wire.{err_target};
@@ -9,7 +11,7 @@ use device::Device;
 use request::Setup;
 
 // What a span may be used for, with its place in the memory buffer.
-#[derive(Drop)]
+#[derive(Clone, Copy)]
 pub enum Access {
     Denied(u8),
     InFlash(usize),

@@ -1,4 +1,6 @@
 // What a pending command does, decided from numbers alone.
+#![tactic(auto)]
+
 ghost use Rattle.std.specs.Prelude.{◌≡◌, cond};
 ghost use Rattle.mode.specs.Wire.{err_vendor};
 ghost use Rattle.action.specs.Action.{action_of, point_of, erase_at, erase_of, store_at, moved_of, reboots_of, ran_of, due_of, writes_of, erases_of, spares_of};
@@ -11,7 +13,7 @@ use device::{Device, Pending, Ran};
 use request::Setup;
 
 // What a pending command does, once every check that needs no flash byte is made.
-#[derive(Drop)]
+#[derive(Clone, Copy)]
 pub enum Action {
     Rest,
     Fail(u8),
@@ -26,14 +28,14 @@ pub enum Action {
 }
 
 // The bytes that an action takes from the front of the block buffer: where they go in memory, and how many they are.
-#[derive(Drop)]
+#[derive(Clone, Copy)]
 pub struct Span {
     pub at: usize,
     pub count: u16,
 }
 
 // So many pages, from a first one on.
-#[derive(Drop)]
+#[derive(Clone, Copy)]
 pub struct Pages {
     pub first: usize,
     pub count: usize,

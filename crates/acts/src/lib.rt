@@ -1,4 +1,6 @@
 // What each action does to the work area, that is, on every board at once.
+#![tactic(auto)]
+
 ghost use Rattle.std.specs.Prelude.{◌≡◌, not, ◌&&◌, leb, ◌+◌, ◌-◌, ◌≤◌, ◌<◌, length, take, drop, replicate};
 ghost use Rattle.laws.specs.Bytes.{put};
 ghost use Rattle.laws.specs.Lists.{all_are};

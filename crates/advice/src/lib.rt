@@ -1,5 +1,6 @@
-// A verdict in words, on standard error. Where it is about what a job does, boards live through the job to tell why:
-// loggers, as `trial` has them.
+// A verdict in words, on standard error. Where it is about what a job does, boards live through the job to tell why.
+#![tactic(auto)]
+
 ghost use Rattle.std.specs.Prelude.{◌≤◌};
 
 use board::Board;
@@ -23,11 +24,11 @@ fn before(line: usize) -> usize {
 fn failed(line: usize, packed: &[u8], card: &[u8]) {
     let scene = trial::run(packed, before(line), card, 0, 0);
     let at = buffer::least(scene.at, packed.len());
-    let asked = player::asks(Board::LOGGER, &packed[at..]);
+    let asked = player::asks(&packed[at..]);
     let device = scene.device;
     let setup = asked.setup;
     let spelled = asked.pending;
-    let failed = Failed {
+    event::fails(Failed {
         line,
         device,
         setup,
@@ -35,8 +36,7 @@ fn failed(line: usize, packed: &[u8], card: &[u8]) {
         left: scene.left,
         dirt: scene.dirt,
         is_protected: scene.is_protected,
-    };
-    event::fails(Board::LOGGER, failed);
+    });
 }
 
 // The end, and which option byte is not the card's.
@@ -61,7 +61,7 @@ fn ended(condition: u8, packed: &[u8], card: &[u8]) {
         pointed: scene.pointed,
         left: scene.left,
     };
-    ends::unmet(Board::LOGGER, condition, stopped, found, cause.device);
+    ends::unmet(condition, stopped, found, cause.device);
 }
 
 // The byte that belongs into flash at an offset, in the pages of the image.
@@ -124,7 +124,7 @@ fn differs(offset: usize, packed: &[u8], image: &[u8], card: &[u8]) {
         is_locked: protection::write_protected(protection::word(board, card, 0), page),
         line: guard.changed,
     };
-    flash::wrong(board, found, line, cause.device);
+    flash::wrong(found, line, cause.device);
 }
 
 // How many bytes of evidence there are.
@@ -138,25 +138,12 @@ fn size(evidence: Done, room: usize) -> usize
 }
 
 // Says a verdict to people. At the front of `room` stands the evidence that was gathered for it: the job's events,
-// packed. `longest` is the length of the longest plan.
-pub fn explain(
-    verdict: Verdict,
-    evidence: Done,
-    room: &[u8],
-    image: &[u8],
-    card: &[u8],
-    longest: usize,
-) {
+// packed.
+pub fn explain(verdict: Verdict, evidence: Done, room: &[u8], image: &[u8], card: &[u8]) {
     let packed = &room[0..size(evidence, room.len())];
     match verdict {
         Verdict::Pass => refused::passed(image.len()),
-        Verdict::Refused(why) => refused::refuses(
-            Board::LOGGER,
-            why,
-            image.len(),
-            card.len(),
-            longest,
-        ),
+        Verdict::Refused(why) => refused::refuses(why, image.len(), card.len(), plan::LOGGER_JOB),
         Verdict::Event(line) => failed(line, packed, card),
         Verdict::End(condition) => ended(condition, packed, card),
         Verdict::Flash(offset) => differs(offset, packed, image, card),

@@ -1,5 +1,7 @@
 // Words go into a lent buffer one behind the other, and each call gives the place behind them. What finds no room is
 // left out, so that no caller has to reckon how long a line becomes.
+#![tactic(auto)]
+
 ghost use Rattle.std.specs.Prelude.{◌≡◌};
 ghost use Rattle.append.specs.Said.{left, said_of};
 

@@ -22,8 +22,8 @@ use Rattle.command.specs.declared.Command.{Command}
 use Rattle.decision.specs.declared.Decision.{Decision}
 use Rattle.command.specs.Command.{command_of}
 use Rattle.decision.specs.Decide.{decide_of}
-use Rattle.hex.specs.Hex.{bytes_of}
-use Rattle.hex.proofs.Fields.{bytes-length}
+use Rattle.hexfield.specs.Hex.{bytes_of}
+use Rattle.hexfield.proofs.Fields.{bytes-length}
 use Rattle.marks.specs.Area.{work_bytes}
 use Rattle.marks.specs.Work.{Work, block_from, work_of, blocked}
 use Rattle.marks.proofs.View.{block-put}

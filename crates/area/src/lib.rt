@@ -1,4 +1,6 @@
 // What each request does to the work area, that is, on every board at once.
+#![tactic(auto)]
+
 ghost use Rattle.std.specs.Prelude.{◌≡◌, true, false, ◌*◌, ◌<◌, length, get_or};
 ghost use Rattle.board.specs.Sound.{Sound};
 ghost use Rattle.protection.specs.Protection.{read_protected};
@@ -6,7 +8,7 @@ ghost use Rattle.request.specs.Setup.{data_length};
 ghost use Rattle.states.specs.WellFormed.{well_formed};
 ghost use Rattle.command.specs.Command.{command_of};
 ghost use Rattle.decision.specs.Decide.{decide_of, is_status};
-ghost use Rattle.hex.specs.Hex.{all_digits, bytes_of};
+ghost use Rattle.hexfield.specs.Hex.{all_digits, bytes_of};
 ghost use Rattle.area.specs.Moved.{moved_as};
 ghost use Rattle.action.specs.Action.{due_of};
 ghost use Rattle.marks.specs.Area.{work_bytes};
@@ -24,7 +26,7 @@ use request::Setup;
 
 // What an event comes to: it falls, that is, fails on some board; or all boards go on alike, with this device. A
 // struct, since the compiler takes an enum with a device in it apart and puts it together again at each event.
-#[derive(Drop)]
+#[derive(Clone, Copy)]
 pub struct Step {
     pub falls: bool,
     pub device: Device,
@@ -156,7 +158,7 @@ fn decided(board: Board, device: Device, setup: Setup, field: &[u8], work: &mut 
         Decision::Stall(_) => falling(device),
         Decision::Accept(next) => going(next),
         Decision::Take(next) => {
-            hex::decode(field, work, marks::block_from(board));
+            hexfield::decode(field, work, marks::block_from(board));
             going(next)
         }
         Decision::Commands { next, count: _ } => going(next),

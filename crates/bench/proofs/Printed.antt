@@ -8,7 +8,7 @@ use lib.ListN.{length}
 use Rattle.board.specs.Layout.{logger, flash_pages, page_bytes, page_offset, flash_bytes, flash_first, pages_of, page_rest}
 use Rattle.board.proofs.Logger.{logger-sound}
 use Rattle.digit.specs.Digit.{digit_of}
-use Rattle.hex.specs.Hex.{hex_of}
+use Rattle.hexfield.specs.Hex.{hex_of}
 use Rattle.line.specs.Event.{line_of}
 use Rattle.text.specs.Text.{text_of}
 use Rattle.ihex.specs.Ways.{text_bytes}

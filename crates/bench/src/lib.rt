@@ -1,1 +1,2 @@
 // Document 01's bench cases marked P: the table in specs/, its one statement in proofs/.
+#![tactic(auto)]

@@ -1,4 +1,6 @@
 // Bits kept eight to a byte, the lowest first: those of a part are set, and was one of them before?
+#![tactic(auto)]
+
 ghost use Rattle.std.specs.Prelude.{◌≡◌, ◌+◌, ◌-◌, ◌*◌, ◌≤◌, ◌<◌, length};
 ghost use Rattle.bits.specs.Bits.{Takes};
 ghost use Rattle.bits.specs.Ways.{stride_of, hit_of, marked_of};

@@ -1,5 +1,7 @@
 // The board: where its regions lie in the address space and in the memory buffer, and which span of addresses lies
 // where. Who asks a board gets its numbers from the methods; that they are constants is known here alone.
+#![tactic(auto)]
+
 ghost use Rattle.std.specs.Prelude.{◌≡◌, ◌≤◌, ◌<◌, length};
 ghost use Rattle.board.specs.Layout.{flash_pages, page_bytes, page_offset, page_from, page_at, pages_of, page_rest, flash_bytes, flash_first, flash_from, ram_from, options_first, options_from, memory_bytes, defaults};
 ghost use Rattle.board.specs.Memory.{ram_parts, part_from, part_bytes, stretch_at};
@@ -9,13 +11,13 @@ ghost use Rattle.board.specs.Span.{place_of, spans, in_flash};
 use refusal::{Admission, Refusal};
 
 // A board is known by its number of flash pages; all else of the layout follows.
-#[derive(Drop)]
+#[derive(Clone, Copy)]
 pub struct Board {
     pub pages: u8,
 }
 
 // Where a span lies, with the place of its first byte in the memory buffer.
-#[derive(Drop)]
+#[derive(Clone, Copy)]
 pub enum Place {
     Flash(usize),
     Ram(usize),
@@ -25,7 +27,7 @@ pub enum Place {
 
 // The stretch of memory that holds a place, a page, RAM or the options: its region with the place, where it ends,
 // and the place's address.
-#[derive(Drop)]
+#[derive(Clone, Copy)]
 pub struct Stretch {
     pub region: Place,
     pub end: usize,

@@ -1,4 +1,6 @@
 // Actions on lent bytes: read one, lay some over others, fill a part; and how far to go in them.
+#![tactic(auto)]
+
 ghost use Rattle.std.specs.Prelude.{◌≡◌, ◌+◌, ◌-◌, ◌≤◌, length, get_or};
 ghost use Rattle.laws.specs.Bytes.{put, filled};
 ghost use Rattle.buffer.specs.Least.{least_of};

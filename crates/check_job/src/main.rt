@@ -1,5 +1,7 @@
 // Checks a job against an image and a card: one line on standard output says the verdict, and a sentence or two on
 // standard error say it to people, unless the call asks for the line alone.
+#![tactic(auto)]
+
 use board::Board;
 use files::Got;
 use libc::{STDERR_FILENO, STDOUT_FILENO};
@@ -33,7 +35,7 @@ fn judge(job: &[u8], image: &[u8], card: &[u8], is_quiet: bool) {
         return;
     }
     let gathered = telling::gather(verdict, job, &mut work);
-    advice::explain(verdict, gathered, &work, image, card, plan::LOGGER_JOB);
+    advice::explain(verdict, gathered, &work, image, card);
     files::write(STDERR_FILENO, b"\n", 1);
 }
 

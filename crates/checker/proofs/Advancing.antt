@@ -12,7 +12,7 @@ use Rattle.device.specs.declared.Device.{Device}
 use Rattle.device.specs.State.{started}
 use Rattle.states.specs.WellFormed.{well_formed}
 use Rattle.states.proofs.Form.{form_of, well_formed_lem}
-use Rattle.hex.specs.Hex.{bytes_of}
+use Rattle.hexfield.specs.Hex.{bytes_of}
 use Rattle.line.specs.Event.{Event, attach, request}
 use Rattle.text.specs.Text.{events_of}
 use Rattle.text.proofs.WalkEvents.{Beyond, Requested, events_end}

@@ -1,4 +1,6 @@
 // The job checker: it walks a job's text over the work area, event by event, and looks at the end.
+#![tactic(auto)]
+
 ghost use Rattle.std.specs.Prelude.{◌≡◌, true, false, not, ◌&&◌, eqb, ◌≤◌, ◌<◌, length};
 ghost use Rattle.refusal.specs.Order.{first_of};
 ghost use Rattle.board.specs.Layout.{logger, flash_bytes, option_bytes, memory_bytes};
@@ -180,7 +182,7 @@ fn has_left(mode: Mode) -> bool
 }
 
 // How far the next event of a job brings all boards; `behind` is where the line after it begins.
-#[derive(Drop)]
+#[derive(Clone, Copy)]
 struct Onward {
     falls: bool,
     device: Device,
@@ -230,7 +232,7 @@ fn advance(board: Board, device: Device, job: &[u8], at: usize, work: &mut [u8])
 
 // How a job comes out before its end is looked at: the number of the first event that fails, or the state of all
 // boards.
-#[derive(Drop)]
+#[derive(Clone, Copy)]
 enum Outcome {
     Fell(usize),
     Ended(Device),

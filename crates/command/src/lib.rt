@@ -1,9 +1,11 @@
 // The command that the data of a DNLOAD spells.
+#![tactic(auto)]
+
 ghost use Rattle.std.specs.Prelude.{◌≡◌};
 ghost use Rattle.command.specs.Command.{command_of};
 
 // The first data byte of a DNLOAD, and the four after it as an address; 0 where they are missing.
-#[derive(Drop)]
+#[derive(Clone, Copy)]
 pub struct Command {
     pub code: u8,
     pub address: u32,

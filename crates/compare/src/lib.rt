@@ -1,4 +1,6 @@
 // Bytes compared: are they all this one, are two lists the same, where do they first differ?
+#![tactic(auto)]
+
 ghost use Rattle.std.specs.Prelude.{◌≡◌, ◌-◌, ◌≤◌, length, drop};
 ghost use Rattle.laws.specs.Lists.{same, all_are};
 ghost use Rattle.compare.specs.Change.{first_change};

@@ -1,4 +1,6 @@
 // Numbers in decimal, written into a lent buffer.
+#![tactic(auto)]
+
 ghost use Rattle.std.specs.Prelude.{◌≡◌, [], ◌∷◌, ◌++◌, ◌+◌, ◌%◌, ◌≤◌, ◌<◌, length};
 ghost use Rattle.laws.specs.Bytes.{put};
 ghost use Rattle.decimal.specs.Decimal.{decimal_of};

@@ -1,4 +1,6 @@
 // What a request comes to, decided from numbers alone. Loader and checker both act on it.
+#![tactic(auto)]
+
 ghost use Rattle.std.specs.Prelude.{◌≡◌};
 ghost use Rattle.decision.specs.Decide.{decide_of, is_status, served_of, download_of, commanded_of, erasing_of, upload_of, listed_count, waiting, waiting_if, refused_of};
 
@@ -8,7 +10,7 @@ use mode::Mode;
 use request::{Request, Setup};
 
 // What a request comes to. Stall, Accept, Take and Commands carry the device after it.
-#[derive(Drop)]
+#[derive(Clone, Copy)]
 pub enum Decision {
     Silent,
     Stall(Device),

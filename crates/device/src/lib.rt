@@ -1,4 +1,6 @@
 // The device's state, by value, and where the events that need no memory take it.
+#![tactic(auto)]
+
 ghost use Rattle.std.specs.Prelude.{◌≡◌};
 ghost use Rattle.mode.specs.Wire.{is_mode};
 ghost use Rattle.device.specs.State.{started, idled, failed, stalled, entered, finished, ran_report, report_of, after_status};
@@ -7,7 +9,7 @@ use board::Board;
 use mode::Mode;
 
 // A command that waits for the GETSTATUS that runs it.
-#[derive(Drop)]
+#[derive(Clone, Copy)]
 pub enum Pending {
     Nothing,
     SetPointer(u32),
@@ -17,7 +19,7 @@ pub enum Pending {
     Write { block: u16, count: u16 },
 }
 
-#[derive(Drop)]
+#[derive(Clone, Copy)]
 pub struct Device {
     pub mode: Mode,
     pub status: u8,
@@ -26,7 +28,7 @@ pub struct Device {
 }
 
 // What the pending command came to. Where nothing was pending the status is 0 and the pointer the old one.
-#[derive(Drop)]
+#[derive(Clone, Copy)]
 pub struct Ran {
     pub status: u8,
     pub pointer: u32,
@@ -34,7 +36,7 @@ pub struct Ran {
 }
 
 // The status and the mode that GETSTATUS reports, by their wire numbers.
-#[derive(Drop)]
+#[derive(Clone, Copy)]
 pub struct Report {
     pub status: u8,
     pub state: u8,

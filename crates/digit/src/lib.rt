@@ -1,4 +1,6 @@
 // One hexadecimal digit: is a byte one, in either case, what it is worth, and the capital that is written.
+#![tactic(auto)]
+
 ghost use Rattle.std.specs.Prelude.{◌≡◌, ◌<◌, ltb};
 ghost use Rattle.digit.specs.Digit.{value_of, digit_of, byte_of};
 

@@ -1,6 +1,8 @@
 // The file of vectors, and the lines that are printed: what the programs that play vectors ask of the system.
 //
 // What the system reads and writes no contract can say: the gate compares what the programs print.
+#![tactic(auto)]
+
 ghost use Rattle.feed.specs.Feed.{Loaded};
 
 use libc::{STDERR_FILENO, STDOUT_FILENO};

@@ -4,6 +4,8 @@
 // current folder, where it is found when there is no such argument, and all that the program takes: `job|job.txt|job
 // and board`. No contract can say what the system reads: that the bytes which came are those of the file is seen by
 // running.
+#![tactic(auto)]
+
 ghost use Rattle.std.specs.Prelude.{◌≡◌, true, false, cond, ◌+◌, ◌≤◌, length};
 ghost use Rattle.append.specs.Said.{left, said_of};
 ghost use Rattle.files.specs.Came.{Came};
@@ -15,7 +17,7 @@ use libc::STDERR_FILENO;
 const ROOM: usize = 512;
 
 // What keeps a file from being read.
-#[derive(Drop)]
+#[derive(Clone, Copy)]
 pub enum Fault {
     None,
     Missing,
@@ -26,7 +28,7 @@ pub enum Fault {
 
 // How a file came out: where it is read, `count` bytes stand in front of the buffer, all of it or as many as there is
 // room for; else there is a fault, and no byte counts.
-#[derive(Drop)]
+#[derive(Clone, Copy)]
 pub struct Got {
     pub is_named: bool,
     pub is_opened: bool,

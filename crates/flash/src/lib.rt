@@ -1,4 +1,6 @@
 // What commands do to the flash in a memory buffer, page by page, under write protection.
+#![tactic(auto)]
+
 ghost use Rattle.std.specs.Prelude.{◌≡◌, ◌+◌, ◌≤◌, ◌<◌, length};
 ghost use Rattle.board.specs.Layout.{flash_pages, page_bytes, page_from, memory_bytes};
 ghost use Rattle.board.specs.Sound.{Sound};

@@ -1,5 +1,7 @@
 // Writes the image that image.hex gives, a text in Intel HEX, to standard output. An argument, if given, is the path of
 // the text, whatever its name ends in. A refusal goes to standard error, and nothing to standard output then.
+#![tactic(auto)]
+
 use board::Board;
 use libc::{STDERR_FILENO, STDOUT_FILENO};
 use refusal::Refusal;

@@ -1,4 +1,6 @@
 // A file's name: does it say that the file holds Intel HEX? Nothing but the name is looked at.
+#![tactic(auto)]
+
 ghost use Rattle.std.specs.Prelude.{◌≡◌};
 ghost use Rattle.hexname.specs.Name.{small_of, ends_in, is_hex_name};
 

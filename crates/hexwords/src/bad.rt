@@ -9,7 +9,7 @@ fn first_strange(record: &[u8]) -> usize
 {
     let mut i = 1;
     while i < record.len() {
-        if !hex::digits(&record[i..i + 1]) {
+        if !hexfield::digits(&record[i..i + 1]) {
             return i;
         }
         i += 1;

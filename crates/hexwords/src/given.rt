@@ -2,7 +2,7 @@
 use crate::{fields, lines};
 
 // The addresses of a line's data, from the first on to one behind the last.
-#[derive(Drop)]
+#[derive(Clone, Copy)]
 pub(crate) struct Span {
     pub from: usize,
     pub to: usize,
@@ -10,7 +10,7 @@ pub(crate) struct Span {
 
 // What is known behind some lines: the upper half of addresses, and the lowest address of a span that one of them
 // gives, with the line; the span's end, where none does.
-#[derive(Drop)]
+#[derive(Clone, Copy)]
 pub(crate) struct Seen {
     pub upper: u16,
     pub address: usize,

@@ -2,6 +2,8 @@
 //
 // The line is looked at anew, once the text is known to be refused: a person waits then, and the reader does not have
 // to carry what only a sentence needs. What is said is put out, and no contract can say more of it.
+#![tactic(auto)]
+
 mod bad;
 mod fields;
 mod given;

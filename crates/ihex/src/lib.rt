@@ -1,4 +1,6 @@
 // Intel HEX: an image read from a text, and written as one.
+#![tactic(auto)]
+
 ghost use Rattle.std.specs.Prelude.{◌≡◌, true, [], ◌+◌, ◌*◌, ◌^◌, ◌≤◌, ◌<◌, length};
 ghost use Rattle.laws.specs.Bytes.{put};
 ghost use Rattle.board.specs.Layout.{logger, flash_bytes};
@@ -30,7 +32,7 @@ pub const LONGEST: usize = OUTER
     + Board::LOGGER_FLASH * 2;
 
 // The end of a walk over a text: how long its image is, or why it has none; and the line at fault, or 0.
-#[derive(Drop)]
+#[derive(Clone, Copy)]
 pub struct Walked {
     pub done: Done,
     pub line: usize,

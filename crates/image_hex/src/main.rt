@@ -1,5 +1,7 @@
 // Writes the image of image.bin to standard output, as Intel HEX. An argument, if given, is the path of the image. A
 // refusal goes to standard error, and nothing to standard output then.
+#![tactic(auto)]
+
 use board::Board;
 use libc::{STDERR_FILENO, STDOUT_FILENO};
 use refusal::{Done, Refusal};

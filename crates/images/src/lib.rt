@@ -2,6 +2,8 @@
 //
 // Which of the two it is, is decided by value. Only a file in Intel HEX costs room for its text, which is then read
 // into the lent image.
+#![tactic(auto)]
+
 ghost use Rattle.std.specs.Prelude.{◌≡◌, true, false, ◌≤◌, length};
 ghost use Rattle.files.specs.Came.{Came};
 

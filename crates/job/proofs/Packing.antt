@@ -10,7 +10,7 @@ use Rattle.laws.specs.Bytes.{put}
 use Rattle.laws.proofs.Bytes.{sets-put}
 use Rattle.laws.proofs.Append.{sets-append, part_put}
 use Rattle.request.specs.Setup.{setup_of, data_length}
-use Rattle.hex.specs.Hex.{bytes_of}
+use Rattle.hexfield.specs.Hex.{bytes_of}
 use Rattle.packed.specs.Packed.{pack_of}
 use Rattle.laws.specs.Lines.{first_line}
 use Rattle.line.specs.Line.{event_of}

@@ -14,7 +14,7 @@ use Rattle.refusal.specs.declared.Done.TheVariants.{Bytes, Refused}
 use Rattle.line.specs.Event.{Event}
 use Rattle.laws.specs.Lines.{lines_of}
 use Rattle.digit.specs.Digit.{capital_of}
-use Rattle.hex.specs.Hex.{capitals}
+use Rattle.hexfield.specs.Hex.{capitals}
 use Rattle.line.specs.Line.{InField, capital_line}
 use Rattle.line.proofs.CapitalLine.{capital_other, capital_inside, capital_outside}
 use Rattle.text.specs.Text.{limit, proper, text_of, first_bad, events_of, capital_text}

@@ -1,4 +1,6 @@
 // The reader of a job: its text, measured, and read into packed events.
+#![tactic(auto)]
+
 ghost use Rattle.std.specs.Prelude.{◌≡◌, true, ◌+◌, ◌≤◌, length, get_or};
 ghost use Rattle.laws.specs.Bytes.{put};
 ghost use Rattle.refusal.specs.Delivery.{in_numbers, delivery};
@@ -59,10 +61,10 @@ fn pack_request(rest: &[u8], out: &mut [u8], at: usize) -> usize
     ensures { (out.new ≡ put at (pack_of (event_of (first_line rest.now))) out.old) × (result ≡ length (first_line rest.now)) }
 {
     out[at] = 1;
-    hex::decode(&rest[line::SETUP..line::TAB], out, at + 1);
+    hexfield::decode(&rest[line::SETUP..line::TAB], out, at + 1);
     let count = Setup::of(&out[at + 1..at + packed::HEAD]).data_length();
     let end = line::DATA + count * 2;
-    hex::decode(&rest[line::DATA..end], out, at + packed::HEAD);
+    hexfield::decode(&rest[line::DATA..end], out, at + packed::HEAD);
     end + 1
 }
 

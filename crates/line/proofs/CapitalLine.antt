@@ -10,8 +10,8 @@ use borrow.Author.Tests.{eq-eqb, ne_eqb}
 use Rattle.laws.proofs.Split.{by_eq, by_lt}
 use Rattle.digit.specs.Digit.{capital_of}
 use Rattle.digit.proofs.Values.{capital_of_capital}
-use Rattle.hex.specs.Hex.{capitals, capital_part}
-use Rattle.hex.proofs.Capitals.{part_capitals, part_same_length, part_inside, part_outside, part_between, capitals-length, same_bytes}
+use Rattle.hexfield.specs.Hex.{capitals, capital_part}
+use Rattle.hexfield.proofs.Capitals.{part_capitals, part_same_length, part_inside, part_outside, part_between, capitals-length, same_bytes}
 use Rattle.line.specs.Line.{InField, capital_line, event_of}
 use Rattle.line.proofs.Spelling.{spelled, Spelled, spelled-here, is_spelled}
 

@@ -8,9 +8,9 @@ use lib.ListN.{length, take, drop, take-append-drop}
 use lib.Seq.{length-take-le}
 use Rattle.laws.proofs.Lists.{bytes_take, bytes_drop}
 use Rattle.request.proofs.Lengths.{fits_eight}
-use Rattle.hex.specs.Hex.{hex_of}
-use Rattle.hex.proofs.Fields.{digits_hex}
-use Rattle.hex.proofs.Capitals.{capitals_hex}
+use Rattle.hexfield.specs.Hex.{hex_of}
+use Rattle.hexfield.proofs.Fields.{digits_hex}
+use Rattle.hexfield.proofs.Capitals.{capitals_hex}
 use Rattle.line.specs.Event.{Event, attach, request, fits, in_bytes, line_of}
 use Rattle.laws.specs.Lines.{first_line}
 use Rattle.line.specs.Line.{event_of, capital_line, well_spelled}

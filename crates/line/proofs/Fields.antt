@@ -9,8 +9,8 @@ use Rattle.laws.proofs.Split.{by_lt}
 use Rattle.request.specs.Setup.{setup_of, data_length}
 use Rattle.request.specs.declared.Setup.{Setup}
 use Rattle.digit.specs.Digit.{byte_of}
-use Rattle.hex.specs.Hex.{bytes_of}
-use Rattle.hex.proofs.Fields.{byte_of_lem}
+use Rattle.hexfield.specs.Hex.{bytes_of}
+use Rattle.hexfield.proofs.Fields.{byte_of_lem}
 
 -- the byte and the word that the digits from place i on spell
 abbrev pub byte_at : List ℕ → ℕ → ℕ

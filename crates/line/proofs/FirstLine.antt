@@ -5,8 +5,8 @@ use mathlib.Core.List.{List, [], ◌∷◌, ◌++◌}
 use Prim.Native.Nat.{ℕ}
 use Rattle.laws.specs.Lines.{first_line}
 use Rattle.laws.proofs.Lines.{first_past}
-use Rattle.hex.specs.Hex.{all_digits}
-use Rattle.hex.proofs.Fields.{digits_no_end}
+use Rattle.hexfield.specs.Hex.{all_digits}
+use Rattle.hexfield.proofs.Fields.{digits_no_end}
 use Rattle.line.proofs.Spelling.{spelled}
 
 -- digits do not end a line

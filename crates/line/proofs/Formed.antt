@@ -11,9 +11,9 @@ use borrow.Author.Tests.{eqb-false, eq-eqb, ne_eqb, le-leb}
 use Rattle.laws.proofs.Split.{by_bool, and_true}
 use Rattle.request.specs.Setup.{setup_of, data_length, fits_of}
 use Rattle.request.proofs.Lengths.{fits_eight, fits_data}
-use Rattle.hex.specs.Hex.{hex_of, bytes_of, all_digits}
-use Rattle.hex.proofs.Fields.{hex_length, bytes_are, digits_hex}
-use Rattle.hex.proofs.Capitals.{capitals-length, digits_of_capitals}
+use Rattle.hexfield.specs.Hex.{hex_of, bytes_of, all_digits}
+use Rattle.hexfield.proofs.Fields.{hex_length, bytes_are, digits_hex}
+use Rattle.hexfield.proofs.Capitals.{capitals-length, digits_of_capitals}
 use Rattle.laws.specs.Lists.{same, all_bytes}
 use Rattle.line.specs.Event.{Event, attach, request, fits, line_of, in_bytes}
 use Rattle.laws.specs.Lines.{first_line}

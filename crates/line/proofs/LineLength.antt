@@ -8,7 +8,7 @@ use lib.ListN.{length, take, drop, get_or, length-append, length-drop}
 use lib.Seq.{length-take-le}
 use Rattle.laws.proofs.Split.{by_bool, by_eq}
 use Rattle.request.specs.Setup.{setup_of, data_length}
-use Rattle.hex.specs.Hex.{bytes_of, all_digits}
+use Rattle.hexfield.specs.Hex.{bytes_of, all_digits}
 use Rattle.line.specs.Event.{attach}
 use Rattle.line.specs.Ways.{line_length}
 use Rattle.laws.specs.Lines.{first_line}

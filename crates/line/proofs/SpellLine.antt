@@ -9,8 +9,8 @@ use lib.Seq.{sets, length-sets, length-take-le}
 use Rattle.laws.specs.Bytes.{put}
 use Rattle.laws.proofs.Bytes.{sets-put, rest_is}
 use Rattle.laws.proofs.Append.{sets-append}
-use Rattle.hex.specs.Hex.{hex_of}
-use Rattle.hex.proofs.Fields.{hex_length}
+use Rattle.hexfield.specs.Hex.{hex_of}
+use Rattle.hexfield.proofs.Fields.{hex_length}
 use Rattle.line.specs.Event.{attach, request, line_of}
 use Rattle.line.proofs.Spelling.{setup_wide, spelled-size}
 

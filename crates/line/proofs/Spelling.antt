@@ -6,8 +6,8 @@ use Prim.Native.Nat.{ℕ, suc, ◌+◌, ◌*◌, ◌/◌, ◌%◌, ◌≤◌, �
 use native.Mathlib.Omega.{arith}
 use lib.ListN.{length, take, drop, get_or, length-append, take-append-drop}
 use lib.Seq.{drop-cons, drop-drop, take_at, get_or_at, drop-append-add, get_or-drop, length-take-le}
-use Rattle.hex.specs.Hex.{hex_of, bytes_of, all_digits, capitals}
-use Rattle.hex.proofs.Fields.{hex_length, bytes-length, bytes_hex, digits_hex, hex_bytes}
+use Rattle.hexfield.specs.Hex.{hex_of, bytes_of, all_digits, capitals}
+use Rattle.hexfield.proofs.Fields.{hex_length, bytes-length, bytes_hex, digits_hex, hex_bytes}
 use Rattle.laws.specs.Lists.{all_bytes}
 
 -- the field ds spells the bytes xs: it has digits only, two a byte

@@ -2,7 +2,7 @@
 use Rattle.std.specs.Prelude.{Bool, true, List, [], ◌∷◌, ◌++◌, ℕ, take, drop}
 use Rattle.request.specs.Setup.{fits_of}
 use Rattle.laws.specs.Lists.{all_bytes}
-use Rattle.hex.specs.Hex.{hex_of}
+use Rattle.hexfield.specs.Hex.{hex_of}
 
 -- "An event is Attach or a request": the request with its setup and its data
 pub data Event : Type 0 where

@@ -1,6 +1,6 @@
 -- The event that a line spells. Document 01, "Job text"; document 02, CR 2. Assumes nothing.
 use Rattle.std.specs.Prelude.{Bool, cond, ◌&&◌, ◌⊎◌, List, ◌++◌, ℕ, ◌+◌, ◌-◌, ◌≤◌, ◌<◌, eqb, length, take, drop, get_or}
-use Rattle.hex.specs.Hex.{capital_part, bytes_of}
+use Rattle.hexfield.specs.Hex.{capital_part, bytes_of}
 use Rattle.laws.specs.Lists.{same}
 use Rattle.line.specs.Event.{Event, attach, request, fits, line_of}
 

@@ -1,9 +1,11 @@
 // One line of a job text: how long it is, if it is well formed, and the line of a request, written.
+#![tactic(auto)]
+
 ghost use Rattle.std.specs.Prelude.{◌≡◌, true, ◌+◌, ◌*◌, ◌≤◌, ◌<◌, length, get_or};
 ghost use Rattle.laws.specs.Bytes.{put};
 ghost use Rattle.request.specs.Setup.{setup_of, data_length};
 ghost use Rattle.digit.specs.Digit.{value_of, byte_of};
-ghost use Rattle.hex.specs.Hex.{all_digits, bytes_of};
+ghost use Rattle.hexfield.specs.Hex.{all_digits, bytes_of};
 ghost use Rattle.line.specs.Event.{request, line_of};
 ghost use Rattle.line.specs.Ways.{line_length};
 
@@ -69,7 +71,7 @@ fn request_length(rest: &[u8]) -> usize
     if rest[TAB] != b'\t' {
         return 0;
     }
-    if !hex::digits(&rest[SETUP..TAB]) {
+    if !hexfield::digits(&rest[SETUP..TAB]) {
         return 0;
     }
     let count = data_length(&rest[SETUP..TAB]);
@@ -80,7 +82,7 @@ fn request_length(rest: &[u8]) -> usize
     if rest[end] != b'\n' {
         return 0;
     }
-    if hex::digits(&rest[DATA..end]) {
+    if hexfield::digits(&rest[DATA..end]) {
         end + 1
     } else {
         0
@@ -112,9 +114,9 @@ pub fn write_request(bytes: &[u8], out: &mut [u8], at: usize) -> usize
     let digits = (bytes.len() - SETUP_BYTES) * 2;
     out[at] = b'Q';
     out[at + 1] = b'\t';
-    hex::encode(&bytes[0..SETUP_BYTES], out, at + SETUP);
+    hexfield::encode(&bytes[0..SETUP_BYTES], out, at + SETUP);
     out[at + TAB] = b'\t';
-    hex::encode(&bytes[SETUP_BYTES..], out, at + DATA);
+    hexfield::encode(&bytes[SETUP_BYTES..], out, at + DATA);
     out[at + DATA + digits] = b'\n';
     SHORTEST + digits
 }

@@ -1,5 +1,7 @@
 // The loader: one event at a time, over memory that the caller lends. It decides by value, by the functions of the
 // crates above, and acts on the buffers here; what a pending command does to memory, `perform` does.
+#![tactic(auto)]
+
 ghost use Rattle.std.specs.Prelude.{◌≡◌, true, List, [], ◌∷◌, ℕ, ◌+◌, ◌≤◌, length, take};
 ghost use Rattle.laws.specs.Bytes.{put};
 ghost use Rattle.refusal.specs.Order.{first_of};
@@ -23,13 +25,13 @@ use refusal::{Admission, Refusal};
 use request::Setup;
 
 // What happens to the device: it is plugged in, or the host asks for something.
-#[derive(Drop)]
+#[derive(Clone, Copy)]
 pub enum Event {
     Attach,
     Request,
 }
 
-#[derive(Drop)]
+#[derive(Clone, Copy)]
 pub enum Answer {
     Accepted,
     // This many bytes stand at the front of the reply buffer.
@@ -40,14 +42,14 @@ pub enum Answer {
     Refused(Refusal),
 }
 
-#[derive(Drop)]
+#[derive(Clone, Copy)]
 pub struct Stepped {
     pub device: Device,
     pub answer: Answer,
 }
 
 // The lengths of the lent buffers.
-#[derive(Drop)]
+#[derive(Clone, Copy)]
 pub struct Sizes {
     pub memory: usize,
     pub block: usize,

@@ -1,5 +1,7 @@
 // The work area: a value and a mark for each byte of memory, and the block that waits to be written. A mark says that
 // every board is known to hold the value. What a mark is, and where the three stand, is known here alone.
+#![tactic(auto)]
+
 ghost use Rattle.std.specs.Prelude.{◌≡◌, ◌+◌, ◌-◌, ◌≤◌, ◌<◌, length, get_or};
 ghost use Rattle.laws.specs.Bytes.{put, filled};
 ghost use Rattle.board.specs.Layout.{memory_bytes};

@@ -1,4 +1,6 @@
 // What a read unprotect does to a memory buffer.
+#![tactic(auto)]
+
 ghost use Rattle.std.specs.Prelude.{◌≡◌, ◌+◌, ◌≤◌, length};
 ghost use Rattle.laws.specs.Bytes.{filled};
 ghost use Rattle.board.specs.Layout.{memory_bytes};

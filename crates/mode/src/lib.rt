@@ -1,11 +1,13 @@
 // The device's modes, and which requests each takes.
+#![tactic(auto)]
+
 ghost use Rattle.std.specs.Prelude.{◌≡◌};
 ghost use Rattle.mode.specs.Wire.{wire_of};
 ghost use Rattle.mode.specs.Table.{allowed_of};
 
 use request::Request;
 
-#[derive(Drop)]
+#[derive(Clone, Copy)]
 pub enum Mode {
     Idle,
     DownloadSync,

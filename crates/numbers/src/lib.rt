@@ -2,13 +2,15 @@
 // is lent, and an answer in numbers.
 //
 // Every function takes any numbers and any bytes.
+#![tactic(auto)]
+
 ghost use Rattle.std.specs.Prelude.{◌≡◌, ◌+◌, ◌-◌, ◌*◌};
 ghost use Rattle.numbers.specs.Numbers.{pair_of, quad_of, lent_of, told_of};
 
 use refusal::Done;
 
 // What a call with an output answered, in numbers: the refusal and the line that it names, or 0, and the bytes put out.
-#[derive(Drop)]
+#[derive(Clone, Copy)]
 pub struct Numbers {
     pub number: usize,
     pub line: usize,

@@ -1,4 +1,6 @@
 // Packed events: how many bytes each takes, and a list of them written as a text.
+#![tactic(auto)]
+
 ghost use Rattle.std.specs.Prelude.{◌≡◌, true, ◌+◌, ◌*◌, ◌≤◌, length, get_or};
 ghost use Rattle.laws.specs.Bytes.{put};
 ghost use Rattle.refusal.specs.Delivery.{delivery};

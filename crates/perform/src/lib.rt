@@ -1,4 +1,6 @@
 // What an action does to memory: the one room in which a loader's memory changes, whichever way its host came.
+#![tactic(auto)]
+
 ghost use Rattle.std.specs.Prelude.{◌≡◌, ◌+◌, ◌≤◌, length};
 ghost use Rattle.board.specs.Layout.{memory_bytes};
 ghost use Rattle.board.specs.Sound.{Sound};

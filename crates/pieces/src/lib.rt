@@ -1,4 +1,6 @@
 // Pieces of an image, laid where their addresses say: a bit for each flash byte tells which were given.
+#![tactic(auto)]
+
 ghost use Rattle.std.specs.Prelude.{◌≡◌, ◌*◌, ◌≤◌, length};
 ghost use Rattle.board.specs.Layout.{flash_bytes};
 ghost use Rattle.pieces.specs.Image.{larger};

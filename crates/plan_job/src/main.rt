@@ -1,5 +1,7 @@
 // Writes the job that puts the image of image.bin on a board with the card of card.bin to standard
 // output. Arguments, if given, are the paths of the two files. A refusal goes to standard error.
+#![tactic(auto)]
+
 mod refuse;
 
 use board::Board;

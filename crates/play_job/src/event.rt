@@ -8,14 +8,14 @@ use request::{Request, Setup};
 const NAMES_ROOM: usize = 64;
 
 // A part of a sentence, as the sentence counts its parts, and the number in it.
-#[derive(Drop)]
+#[derive(Clone, Copy)]
 struct Clause {
     part: usize,
     number: usize,
 }
 
 // What a request is for: whether it has a block, and the parts that say what is sent or read.
-#[derive(Drop)]
+#[derive(Clone, Copy)]
 struct Aim {
     extent: usize,
     download: Clause,

@@ -2,6 +2,8 @@
 // event and then what differs from before. Arguments, if given, are the paths of the two files.
 //
 // model/play_vectors.py makes the sample and the text that this program has to print for it.
+#![tactic(auto)]
+
 mod change;
 mod event;
 mod play;

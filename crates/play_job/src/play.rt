@@ -42,7 +42,7 @@ fn turn(
 {
     let mut before = [0u8; Board::LOGGER_MEMORY];
     buffer::put(&mut before, 0, memory);
-    let asked = player::asks(Board::LOGGER, piece);
+    let asked = player::asks(piece);
     let stepped = player::step(device, piece, memory, block, reply);
     print(number, device.pointer, asked, stepped, &before, memory);
     stepped.device

@@ -13,6 +13,7 @@ use Rattle.laws.proofs.Split.{by_bool}
 use Rattle.refusal.specs.declared.Admission.{Admission}
 use Rattle.refusal.specs.declared.Admission.TheVariants.{Admitted, Refused}
 use Rattle.board.specs.declared.Board.{Board}
+use Rattle.board.specs.Layout.{logger}
 use Rattle.request.specs.declared.Setup.{Setup}
 use Rattle.request.specs.Setup.{setup_of}
 use Rattle.device.specs.declared.Device.{Device}
@@ -40,11 +41,11 @@ unfolding step_of admitted_of
 attach_alone board d q m b y = steps_alone (admitted_of board d Attach [] (sizes_of m b y)) board d q m b y
 
 -- the part of a piece from there on is its request
-pub played_by : (board : Board) (d : Device) (e : Event) (from : ℕ) (piece m b y : List ℕ) → e ≡ cond (eqb (get_or piece 0 0) 0) Attach Request → drop from piece ≡ drop 1 piece → step_of board d e (take (length piece - from) (drop from piece)) m b y ≡ played_of board d piece m b y
+pub played_by : (d : Device) (e : Event) (from : ℕ) (piece m b y : List ℕ) → e ≡ cond (eqb (get_or piece 0 0) 0) Attach Request → drop from piece ≡ drop 1 piece → step_of logger d e (take (length piece - from) (drop from piece)) m b y ≡ played_of d piece m b y
 unfolding played_of stepped_of event_in
-played_by board d e from piece m b y k r =
+played_by d e from piece m b y k r =
     by_bool (eqb (get_or piece 0 0) 0)
-    (λ t. rw (k, t) (attach_alone board d (take (length piece - from) (drop from piece)) m b y))
+    (λ t. rw (k, t) (attach_alone logger d (take (length piece - from) (drop from piece)) m b y))
     (λ f. rw (k, rest_is from piece, r, f) refl)
 
 -- past the end of a piece nothing is left
@@ -54,7 +55,7 @@ behind_end piece count h =
     (drop-length piece ∙ sym (drop_of_length-le piece k), le_refl _)
 
 -- what is asked for, found from parts of the piece
-pub asked_by : (board : Board) (d : Device) (e : Event) (s : Setup) (w : Pending) (k : Command) (x : Decision) (from stage : ℕ) (piece : List ℕ) → e ≡ cond (eqb (get_or piece 0 0) 0) Attach Request → drop from piece ≡ drop 1 piece → drop stage piece ≡ drop 9 piece → s ≡ setup_of (take (length piece - from) (drop from piece)) → k ≡ command_of (take (length piece - stage) (drop stage piece)) → d ≡ started board → x ≡ decide_of d s k → w ≡ waits_of x → asked_for e s w ≡ asked_of board piece
+pub asked_by : (d : Device) (e : Event) (s : Setup) (w : Pending) (k : Command) (x : Decision) (from stage : ℕ) (piece : List ℕ) → e ≡ cond (eqb (get_or piece 0 0) 0) Attach Request → drop from piece ≡ drop 1 piece → drop stage piece ≡ drop 9 piece → s ≡ setup_of (take (length piece - from) (drop from piece)) → k ≡ command_of (take (length piece - stage) (drop stage piece)) → d ≡ started logger → x ≡ decide_of d s k → w ≡ waits_of x → asked_for e s w ≡ asked_of piece
 unfolding asked_of
-asked_by board d e s w k x from stage piece he hf hg hs hk hd hx hw =
+asked_by d e s w k x from stage piece he hf hg hs hk hd hx hw =
     rw (hw, hx, hd, hs, hk, he, rest_is from piece, rest_is stage piece, hf, hg) refl

@@ -1,6 +1,6 @@
 -- What a packed event asks for. Document 01, "Job text", last sentences, and "DNLOAD". Assumes nothing.
 use Rattle.std.specs.Prelude.{cond, List, ℕ, eqb, drop, get_or}
-use Rattle.board.specs.declared.Board.{Board}
+use Rattle.board.specs.Layout.{logger}
 use Rattle.request.specs.declared.Setup.{Setup}
 use Rattle.request.specs.Setup.{setup_of}
 use Rattle.device.specs.declared.Pending.{Pending}
@@ -29,8 +29,8 @@ waits_of Status = Nothing
 abbrev pub asked_for : Event → Setup → Pending → Asked
 asked_for event setup pending = record { event = event; setup = setup; pending = pending }
 
--- what a piece is, its setup, and the command that its data spells: the one that it leaves on a board just attached
-unfoldable pub asked_of : Board → List ℕ → Asked
-asked_of board piece =
+-- what a piece is, its setup, and the command that its data spells: the one that it leaves on the logger's board just attached
+unfoldable pub asked_of : List ℕ → Asked
+asked_of piece =
     asked_for (cond (eqb (get_or piece 0 0) 0) Attach Request) (setup_of (drop 1 piece))
-    (waits_of (decide_of (started board) (setup_of (drop 1 piece)) (command_of (drop 9 piece))))
+    (waits_of (decide_of (started logger) (setup_of (drop 1 piece)) (command_of (drop 9 piece))))

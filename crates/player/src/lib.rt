@@ -1,6 +1,7 @@
 // Packed events on a board, for the programs that play a job to one: what an event asks for, and what comes of it.
+#![tactic(auto)]
+
 ghost use Rattle.std.specs.Prelude.{◌≡◌, cond, ◌-◌, ◌≤◌, eqb, length, drop, get_or};
-ghost use Rattle.board.specs.Layout.{logger};
 ghost use Rattle.loader.specs.Answer.{left};
 ghost use Rattle.player.specs.Played.{played_of};
 ghost use Rattle.player.specs.Asked.{waits_of, asked_of};
@@ -14,7 +15,7 @@ use request::Setup;
 
 // What a packed event asks for. `pending` is the command that a request leaves waiting on a board that was just
 // attached: the one that a DNLOAD spells, or none.
-#[derive(Drop)]
+#[derive(Clone, Copy)]
 pub struct Asked {
     pub event: Event,
     pub setup: Setup,
@@ -54,7 +55,7 @@ pub fn step(
     block: &mut [u8],
     reply: &mut [u8],
 ) -> Stepped
-    ensures { left result memory.new block.new reply.new ≡ played_of logger device piece.now memory.old block.old reply.old }
+    ensures { left result memory.new block.new reply.new ≡ played_of device piece.now memory.old block.old reply.old }
 {
     let event = kind(piece);
     let from = behind(piece, REQUEST);
@@ -78,15 +79,15 @@ fn waits(decision: Decision) -> Pending
 }
 
 // What a packed event asks for. Bytes that are not there count as 0.
-pub fn asks(board: Board, piece: &[u8]) -> Asked
-    ensures { result ≡ asked_of board piece.now }
+pub fn asks(piece: &[u8]) -> Asked
+    ensures { result ≡ asked_of piece.now }
 {
     let event = kind(piece);
     let from = behind(piece, REQUEST);
     let stage = behind(piece, STAGE);
     let setup = Setup::of(&piece[from..]);
     let command = Command::of(&piece[stage..]);
-    let device = Device::start(board);
+    let device = Device::start(Board::LOGGER);
     let pending = waits(decision::decide(device, setup, command));
     Asked {
         event,

@@ -1,4 +1,6 @@
 // What the option bytes protect: reading and writing as a whole, and each page by its bit.
+#![tactic(auto)]
+
 ghost use Rattle.std.specs.Prelude.{◌≡◌};
 ghost use Rattle.protection.specs.Protection.{locked_from, word_from, write_protected, any_protected, option_of, word_of, read_protected};
 

@@ -1,12 +1,11 @@
 // What requests ask for and what commands do, in words, with the addresses that they concern.
 use crate::{form, place, say};
-use board::Board;
 use device::{Device, Pending};
 use request::{Request, Setup};
 
 // What is done, as the sentence in `tell` counts it, with the block and so many bytes from an address on; a count of 0
 // stands for none.
-#[derive(Drop)]
+#[derive(Clone, Copy)]
 pub struct Deed {
     what: usize,
     block: u16,
@@ -113,7 +112,7 @@ fn lead(request: Request, what: usize) -> usize {
     }
 }
 
-fn tell(board: Board, lead: usize, deed: Deed) {
+fn tell(lead: usize, deed: Deed) {
     let count = deed.count as usize;
     let block = deed.block as usize;
     say::fill(
@@ -123,25 +122,25 @@ fn tell(board: Board, lead: usize, deed: Deed) {
         ],
     );
     if deed.size != 0 {
-        place::span(board, deed.from, deed.size);
+        place::span(deed.from, deed.size);
     }
 }
 
 // The line that changed something, and what it ran on the device; `letter` is 0 for a capital one, at the front of a
 // sentence.
-pub(crate) fn ran(board: Board, letter: usize, line: usize, device: Device) {
+pub(crate) fn ran(letter: usize, line: usize, device: Device) {
     let pending = device.pending;
     say::tell(b"[L|l]ine # of the job runs ", letter, line, 0, 0);
-    tell(board, 0, of(device.pointer, pending));
+    tell(0, of(device.pointer, pending));
 }
 
 // A request to a device in this state; `spelled` is the command that its data spells.
-pub(crate) fn describe(board: Board, device: Device, setup: Setup, spelled: Pending) {
+pub(crate) fn describe(device: Device, setup: Setup, spelled: Pending) {
     let request = setup.request();
     let deed = known(device, request, setup, spelled);
     say::request(form::named(setup));
     match request {
         Request::Unknown => form::describe(setup),
-        _ => tell(board, lead(request, deed.what), deed),
+        _ => tell(lead(request, deed.what), deed),
     }
 }

@@ -6,7 +6,7 @@ use mode::Mode;
 
 // The board after the job; how many lines the job has, the last of them that set the pointer, and the one by which the
 // loader leaves.
-#[derive(Drop)]
+#[derive(Clone, Copy)]
 pub struct Stopped {
     pub device: Device,
     pub count: usize,
@@ -16,7 +16,7 @@ pub struct Stopped {
 
 // The first option byte that is not the card's: its number, its value on the board and on the card, the last line that
 // changed it, and whether the card is read-protected.
-#[derive(Drop)]
+#[derive(Clone, Copy)]
 pub struct Altered {
     pub number: usize,
     pub byte: u8,
@@ -38,7 +38,7 @@ fn due(mode: Mode) -> usize {
 }
 
 // The loader has not left.
-fn stayed(board: Board, mode: Mode, count: usize) {
+fn stayed(mode: Mode, count: usize) {
     let due = due(mode);
     say::tell(
         b"[The job has no line: the loader's state still is |After the job's last line (line #) the loader's state is ]",
@@ -52,19 +52,19 @@ fn stayed(board: Board, mode: Mode, count: usize) {
         b", and the new program is not started. [Add the GETSTATUS with which the loader leaves.|Send the GETSTATUS that are due, and end|Send the GETSTATUS that is due, and end|Send ABORT, and end|Add a line A, for the board to be attached again, and end|End][| the job as a plan ends: set pointer to @, two GETSTATUS, DNLOAD of length 0, one GETSTATUS.]",
         due,
         due,
-        board.flash_first() as usize,
+        Board::LOGGER.flash_first() as usize,
         0,
     );
 }
 
 // The loader leaves, by the DNLOAD of length 0 in line `left`, for another place than the flash's start, to which line
 // `pointed` set the pointer.
-fn astray(board: Board, pointer: u32, pointed: usize, left: usize) {
+fn astray(pointer: u32, pointed: usize, left: usize) {
     say::tell(b"Line # of the job sets the pointer to ", pointed, 0, 0, 0);
-    place::span(board, pointer as u64, 1);
+    place::span(pointer as u64, 1);
     say::tell(
         b", where it still is when the job leaves, and the board would start its program from there. Set the pointer to @, with two GETSTATUS, before the DNLOAD of length 0 in line #.",
-        board.flash_first() as usize,
+        Board::LOGGER.flash_first() as usize,
         left,
         0,
         0,
@@ -81,8 +81,8 @@ fn restore(number: usize, is_protected: bool) -> usize {
 }
 
 // The options are not those of the card any more; the line runs on this device.
-fn changed(board: Board, found: Altered, device: Device) {
-    deed::ran(board, 0, found.line, device);
+fn changed(found: Altered, device: Device) {
+    deed::ran(0, found.line, device);
     say::tell(
         b", and option byte # is % then and not % as on the card. [The card is read-protected: lift that on the board first, which erases the flash, then check a job with no read unprotect with the card that the board has then.|That protects the board from reading. Take it out of the job.|Take it out of the job, or write the card's bytes back before the job leaves.]",
         found.number,
@@ -93,12 +93,12 @@ fn changed(board: Board, found: Altered, device: Device) {
 }
 
 // The condition that fails after the job; `before` is the board before the line that altered its options.
-pub fn unmet(board: Board, condition: u8, stopped: Stopped, found: Altered, before: Device) {
+pub fn unmet(condition: u8, stopped: Stopped, found: Altered, before: Device) {
     let device = stopped.device;
     let mode = device.mode;
     match condition {
-        1 => stayed(board, mode, stopped.count),
-        2 => astray(board, device.pointer, stopped.pointed, stopped.left),
-        _ => changed(board, found, before),
+        1 => stayed(mode, stopped.count),
+        2 => astray(device.pointer, stopped.pointed, stopped.left),
+        _ => changed(found, before),
     }
 }

@@ -8,7 +8,7 @@ use request::{Request, Setup};
 
 // An event that fails: its line, the board before it, its setup and the command that its data spells. Then, of that
 // board: the line by which the loader has left, the place of the first byte in the way of a write, and read protection.
-#[derive(Drop)]
+#[derive(Clone, Copy)]
 pub struct Failed {
     pub line: usize,
     pub device: Device,
@@ -47,9 +47,9 @@ fn untimely(request: Request, mode: Mode) -> usize {
 }
 
 // What is wrong with where a block lies.
-fn misplaced(board: Board, pointer: u32, block: u16, count: u16) -> usize {
+fn misplaced(pointer: u32, block: u16, count: u16) -> usize {
     let from = access::block_address(block, pointer);
-    let place = board.place(from, count as u64);
+    let place = Board::LOGGER.place(from, count as u64);
     match place {
         Place::Outside => 6,
         Place::Options(_) => 5,
@@ -58,46 +58,46 @@ fn misplaced(board: Board, pointer: u32, block: u16, count: u16) -> usize {
 }
 
 // What is wrong with what a command aims at.
-fn aimed(board: Board, pointer: u32, pending: Pending) -> usize {
+fn aimed(pointer: u32, pending: Pending) -> usize {
     match pending {
         Pending::SetPointer(_) => 9,
-        Pending::Write { block, count } => misplaced(board, pointer, block, count),
+        Pending::Write { block, count } => misplaced(pointer, block, count),
         _ => 8,
     }
 }
 
 // The command that a GETSTATUS runs, by what the loader means to do. A command that it does not refuse by then is a
 // write to flash.
-fn status(board: Board, device: Device, is_protected: bool) -> usize {
+fn status(device: Device, is_protected: bool) -> usize {
     let pending = device.pending;
-    let action = action::intend(board, is_protected, device);
+    let action = action::intend(Board::LOGGER, is_protected, device);
     match action {
         Action::Fail(status) => if status == Device::VENDOR {
             4
         } else {
-            aimed(board, device.pointer, pending)
+            aimed(device.pointer, pending)
         },
         _ => DIRTY,
     }
 }
 
-fn upload(board: Board, pointer: u32, setup: Setup, is_protected: bool) -> usize {
+fn upload(pointer: u32, setup: Setup, is_protected: bool) -> usize {
     if setup.value == 1 {
         return 2;
     }
     if is_protected {
         return 4;
     }
-    misplaced(board, pointer, setup.value, setup.length)
+    misplaced(pointer, setup.value, setup.length)
 }
 
 // A request that the mode takes.
-fn served(board: Board, device: Device, setup: Setup, is_protected: bool) -> usize {
+fn served(device: Device, setup: Setup, is_protected: bool) -> usize {
     let request = setup.request();
     match request {
         Request::Download => if setup.value == 1 { 2 } else { 3 },
-        Request::Upload => upload(board, device.pointer, setup, is_protected),
-        _ => status(board, device, is_protected),
+        Request::Upload => upload(device.pointer, setup, is_protected),
+        _ => status(device, is_protected),
     }
 }
 
@@ -110,14 +110,14 @@ fn silent(mode: Mode) -> usize {
 }
 
 // Why the device does not do what the setup asks for.
-fn why(board: Board, device: Device, setup: Setup, is_protected: bool) -> usize {
+fn why(device: Device, setup: Setup, is_protected: bool) -> usize {
     let mode = device.mode;
     let request = setup.request();
     if mode.wire() == 0 {
         return silent(mode);
     }
     if mode::allowed(request, mode) {
-        return served(board, device, setup, is_protected);
+        return served(device, setup, is_protected);
     }
     untimely(request, mode)
 }
@@ -135,12 +135,12 @@ fn stalls(mode: Mode, reason: usize) {
 }
 
 // A write to flash that is not erased, first at this place of memory.
-fn dirty(board: Board, first: usize) {
+fn dirty(first: usize) {
     say::text(b"On some board the byte at ");
-    place::byte(board, first);
+    place::byte(first);
     say::tell(
         b" is not erased by then, and the loader writes nothing and reports errWRITE. Erase page # in the lines before, and write no byte twice.",
-        board.page_at(first),
+        Board::LOGGER.page_at(first),
         0,
         0,
         0,
@@ -148,33 +148,32 @@ fn dirty(board: Board, first: usize) {
 }
 
 // The reason; the loader has left by line `left`, and `dirt` is the place of the first byte in the way of a write.
-fn tell(board: Board, reason: usize, left: usize, dirt: usize, mode: Mode, setup: Setup) {
+fn tell(reason: usize, left: usize, dirt: usize, mode: Mode, setup: Setup) {
     match reason {
-        DIRTY => dirty(board, dirt),
+        DIRTY => dirty(dirt),
         MISSHAPED => form::correct(setup),
         0..=9 => say::tell(
             b"The [loader has left before this line and answers nothing. Take out the lines from here on or, where the job needs them, the DNLOAD of length 0 in line #.|board reboots before this line, for its options were written or its read protection was lifted, and answers nothing. Put a line A before this one.|loader stalls it, for blocks are numbered from 2 on. Correct wValue.|loader stalls it: with wValue 0 it takes 21 and four address bytes, 41 and four, 41 alone, or 92 alone. Correct the data, or write a block with wValue 2.|loader reports errVENDOR, for read protection is on (option byte 0 is not AA). Lift it on the board, which erases the flash, then check again with the card that the board has then.|loader reports errTARGET, for options are read and written all # at once, from @ on. Correct the pointer or the length.|loader reports errTARGET, for these bytes do not lie in one region. Correct the pointer, wValue or the length.|loader reports errTARGET, for flash and RAM are read and written two bytes at least. Ask for two, and pad a write with FF.|loader reports errTARGET, for only flash has pages. Correct the address.|loader reports errTARGET, for the address is in no region. Correct it.]",
             reason,
             left,
             Board::OPTION_BYTES,
-            board.options_first() as usize,
+            Board::LOGGER.options_first() as usize,
         ),
         _ => stalls(mode, reason),
     }
 }
 
 // The line of the event, its request, and the reason.
-pub fn fails(board: Board, failed: Failed) {
+pub fn fails(failed: Failed) {
     let device = failed.device;
     let mode = device.mode;
     let setup = failed.setup;
     let spelled = failed.spelled;
     say::tell(b"Line # of the job is ", failed.line, 0, 0, 0);
-    deed::describe(board, device, setup, spelled);
+    deed::describe(device, setup, spelled);
     say::text(b". ");
     tell(
-        board,
-        why(board, device, setup, failed.is_protected),
+        why(device, setup, failed.is_protected),
         failed.left,
         failed.dirt,
         mode,

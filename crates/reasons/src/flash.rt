@@ -9,7 +9,7 @@ use device::{Device, Pending};
 // A byte of flash after the job: its place in memory, and the side that it lies on (0 in the image, 1 behind it in its
 // last page, 2 in a page that the image does not reach); its value on either board, the one that it has to have, whether
 // the card protects its page, and the last line that changed the option byte of its page.
-#[derive(Drop)]
+#[derive(Clone, Copy)]
 pub struct Found {
     pub place: usize,
     pub side: usize,
@@ -29,14 +29,14 @@ fn hold(is_locked: bool, line: usize) -> usize {
     if line == 0 { 1 } else { 2 }
 }
 
-fn stuck(board: Board, found: Found) {
-    let page = board.page_at(found.place);
+fn stuck(found: Found) {
+    let page = Board::LOGGER.page_at(found.place);
     say::fill(
         b"[page # is write-protected by the card (option byte #, bit #): the loader answers OK to every erase and write there and leaves the page as it is, so the old code would stay. Lift the write protection of page # on the board, then check again with the card that the board has then.|the job leaves it as it was. Erase page # in the job, then write the image's bytes to it.|the job leaves it as it was. The job changes the write protection, last in line #: erase and write page # while it is not write-protected.]",
         &[
             hold(found.is_locked, found.line),
             page,
-            protection::option_of(board, page),
+            protection::option_of(Board::LOGGER, page),
             page % 8,
             page,
             page,
@@ -59,11 +59,11 @@ fn advice(side: usize, zero: u8, pending: Pending) -> usize {
 }
 
 // What a line did to the byte on this device.
-fn done(board: Board, found: Found, line: usize, device: Device) {
+fn done(found: Found, line: usize, device: Device) {
     let pending = device.pending;
     let advice = advice(found.side, found.zero, pending);
     let want = found.want as usize;
-    deed::ran(board, 1, line, device);
+    deed::ran(1, line, device);
     say::tell(
         b"[, and no write of % to it runs after that. Write the image's bytes behind that line, each write with the GETSTATUS that runs it, or take the image that the job was made for.|, which leaves % there and not %. Correct the data or the address of the write, or take the image that the job was made for.|. In place of the mass erase, erase the image's pages one by one, and write to no other.|, which erases all flash of a read-protected board. Lift the read protection on the board first, then check a job with no read unprotect with the card that the board has then.|. Take that erase out of the job, and what it writes to this page.]",
         advice,
@@ -74,9 +74,9 @@ fn done(board: Board, found: Found, line: usize, device: Device) {
 }
 
 // The byte, and the line that did something to it, on this device.
-pub fn wrong(board: Board, found: Found, line: usize, device: Device) {
+pub fn wrong(found: Found, line: usize, device: Device) {
     say::text(b"The byte at ");
-    place::byte(board, found.place);
+    place::byte(found.place);
     say::tell(
         b" [belongs to the image|lies behind the image in its last page and has to be erased|lies behind the image's last page and has to stay as it is], but ",
         found.side,
@@ -85,8 +85,8 @@ pub fn wrong(board: Board, found: Found, line: usize, device: Device) {
         0,
     );
     if found.side == 2 || found.zero == found.erased {
-        done(board, found, line, device);
+        done(found, line, device);
         return;
     }
-    stuck(board, found);
+    stuck(found);
 }

@@ -27,21 +27,21 @@ fn but_one(count: u16) -> usize
 }
 
 // The page of an address, or 0 where it lies in none.
-fn page_of(board: Board, address: usize) -> usize {
-    let place = board.place(address as u64, 1);
+fn page_of(address: usize) -> usize {
+    let place = Board::LOGGER.place(address as u64, 1);
     match place {
-        Place::Flash(at) => board.page_at(at),
+        Place::Flash(at) => Board::LOGGER.page_at(at),
         _ => 0,
     }
 }
 
 // So many bytes from an address on.
-pub(crate) fn span(board: Board, from: u64, count: u16) {
-    let place = board.place(from, count as u64);
+pub(crate) fn span(from: u64, count: u16) {
+    let place = Board::LOGGER.place(from, count as u64);
     let first = (from % ADDRESSES) as usize;
     let last = first + but_one(count);
-    let low = page_of(board, first);
-    let high = page_of(board, last);
+    let low = page_of(first);
+    let high = page_of(last);
     say::fill(
         b"@[| to @][ (RAM)| (options)| (not in a region)| (page #)| (pages # to #)]",
         &[
@@ -57,7 +57,7 @@ pub(crate) fn span(board: Board, from: u64, count: u16) {
 }
 
 // The byte at a place of memory.
-pub(crate) fn byte(board: Board, place: usize) {
-    let stretch = board.stretch_at(place);
-    span(board, stretch.address as u64, 1);
+pub(crate) fn byte(place: usize) {
+    let stretch = Board::LOGGER.stretch_at(place);
+    span(stretch.address as u64, 1);
 }

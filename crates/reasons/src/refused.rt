@@ -32,7 +32,7 @@ fn plural(card: usize) -> usize {
 
 // A refusal of the checker; the sentence picks by its number. The ones left out are not its own, or are about a work
 // area of another size than ours. `longest` is the length of the longest plan.
-pub fn refuses(board: Board, why: Refusal, image: usize, card: usize, longest: usize) {
+pub fn refuses(why: Refusal, image: usize, card: usize, longest: usize) {
     let number = why.number() as usize;
     say::fill(
         b"[|||||||The image |The card has |The job has more than 60000 bytes|Line # of the job is malformed|][is empty|has more bytes than the flash|# byte|# bytes|more than # bytes|][|||||||. Give an image of 1 to # bytes.|. Give the # option bytes as they are read from @.|. Take out lines that it does not need: the plan of the longest image has # bytes.|. Correct it: a line is A, or Q, a tab, 16 digits, a tab and the data, with as many bytes as the setup asks for, in hexadecimal of either case, and ends with LF alone; A and Q are capitals.|]",
@@ -44,9 +44,9 @@ pub fn refuses(board: Board, why: Refusal, image: usize, card: usize, longest: u
             card,
             Board::OPTION_BYTES,
             number,
-            board.flash_bytes(),
+            Board::LOGGER.flash_bytes(),
             Board::OPTION_BYTES,
-            board.options_first() as usize,
+            Board::LOGGER.options_first() as usize,
             longest,
         ],
     );

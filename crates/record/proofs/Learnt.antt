@@ -6,7 +6,7 @@ use Rattle.laws.proofs.Append.{take_put}
 use Rattle.laws.proofs.Split.{by_bool, and_true}
 use Rattle.laws.specs.Lines.{first_line}
 use Rattle.laws.proofs.Lines.{first_some}
-use Rattle.hex.proofs.Fields.{byte_of_lem}
+use Rattle.hexfield.proofs.Fields.{byte_of_lem}
 use Rattle.record.specs.Record.{length_in, spelled, record_in, length_of, type_of, sound, good_record}
 use Rattle.record.specs.Ways.{record_line_length, record_laid}
 use Rattle.record.proofs.Spelling.{Spells, spells, spells_record, spells_length, spells_length_here, ends_some}

@@ -6,8 +6,8 @@ use Rattle.laws.proofs.Split.{by_bool}
 use Rattle.laws.specs.Lines.{first_line}
 use Rattle.digit.specs.Digit.{value_of}
 use Rattle.digit.proofs.Values.{byte_small}
-use Rattle.hex.specs.Hex.{all_digits, bytes_of}
-use Rattle.hex.proofs.Fields.{bytes-length}
+use Rattle.hexfield.specs.Hex.{all_digits, bytes_of}
+use Rattle.hexfield.proofs.Fields.{bytes-length}
 use Rattle.record.specs.Record.{length_in, spelled, record_in, sound, good_record}
 use Rattle.record.specs.Ways.{spelled_length, record_line_length, record_laid}
 use Rattle.record.proofs.Spelling.{Spells, spells, spells_size, spells_length, spells_spelled, spells_record, spells_field, length_good, length_digits, length_fit, ends_some}

@@ -7,8 +7,8 @@ use Rattle.laws.proofs.Lists.{same_refl, same_eq}
 use Rattle.laws.specs.Lines.{first_line}
 use Rattle.laws.proofs.Lines.{first_rest, first_past}
 use Rattle.digit.specs.Digit.{byte_of, value_of}
-use Rattle.hex.specs.Hex.{all_digits, bytes_of}
-use Rattle.hex.proofs.Fields.{digit_at, digits_take, digits_no_end}
+use Rattle.hexfield.specs.Hex.{all_digits, bytes_of}
+use Rattle.hexfield.proofs.Fields.{digit_at, digits_take, digits_no_end}
 use Rattle.record.specs.Record.{length_in, digits_in, ended, spelled, record_in}
 use Rattle.record.specs.Ways.{line_end, spelled_length}
 

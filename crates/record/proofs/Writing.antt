@@ -4,8 +4,8 @@ use lib.Seq.{sets}
 use Rattle.laws.specs.Bytes.{put}
 use Rattle.laws.proofs.Bytes.{sets-put, put-length}
 use Rattle.laws.proofs.Append.{sets-append, take_put, put_behind}
-use Rattle.hex.specs.Hex.{hex_of}
-use Rattle.hex.proofs.Fields.{hex_length}
+use Rattle.hexfield.specs.Hex.{hex_of}
+use Rattle.hexfield.proofs.Fields.{hex_length}
 use Rattle.record.specs.Record.{sum_of, summed, record_of, record_line}
 
 pub line_length_of : (r : List ℕ) → length (record_line r) ≡ 2 + length r * 2

@@ -5,8 +5,8 @@ use Rattle.laws.specs.Lists.{all_bytes}
 use Rattle.laws.proofs.Lists.{bytes-append}
 use Rattle.laws.specs.Lines.{first_line, lines_of}
 use Rattle.laws.proofs.Lines.{lines_first}
-use Rattle.hex.specs.Hex.{hex_of}
-use Rattle.hex.proofs.Fields.{hex_length, bytes_hex, digits_hex, byte_of_lem}
+use Rattle.hexfield.specs.Hex.{hex_of}
+use Rattle.hexfield.proofs.Fields.{hex_length, bytes_hex, digits_hex, byte_of_lem}
 use Rattle.record.specs.Record.{length_in, spelled, record_in, length_of, offset_of, type_of, data_of, sum_of, suits, sound, good_record, summed, record_of, record_line}
 use Rattle.record.proofs.Spelling.{Spells, length_in_lem, spells_first, spells_record, spells_spelled}
 use Rattle.record.proofs.Writing.{record_length_of}

@@ -2,7 +2,7 @@
 use Rattle.std.specs.Prelude.{ℕ, ◌+◌, ◌-◌, ◌*◌, ◌/◌, ◌%◌, Bool, true, false, cond, ◌&&◌, ◌||◌, List, [], ◌∷◌, ◌++◌, length, take, drop, ◌==◌, slice_index}
 use Rattle.laws.specs.Lists.{same}
 use Rattle.digit.specs.Digit.{byte_of}
-use Rattle.hex.specs.Hex.{all_digits, bytes_of, hex_of}
+use Rattle.hexfield.specs.Hex.{all_digits, bytes_of, hex_of}
 
 -- the record mark, ':'
 abbrev pub mark : ℕ

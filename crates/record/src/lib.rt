@@ -1,5 +1,7 @@
 // One line of Intel HEX: how long it is, if it is no bad record, and its record's bytes; and the line of a record,
 // written.
+#![tactic(auto)]
+
 ghost use Rattle.std.specs.Prelude.{◌≡◌, ◌+◌, ◌-◌, ◌*◌, ◌%◌, ◌<◌, ◌≤◌, length};
 ghost use Rattle.laws.specs.Bytes.{put};
 ghost use Rattle.record.specs.Record.{suits, sum_of, sound, record_of, record_line};
@@ -68,7 +70,7 @@ fn spelled_length(rest: &[u8]) -> usize
     if rest.len() <= end {
         return 0;
     }
-    if !hex::digits(&rest[1..end]) {
+    if !hexfield::digits(&rest[1..end]) {
         return 0;
     }
     line_end(rest, end)
@@ -136,7 +138,7 @@ pub fn read(rest: &[u8], out: &mut [u8]) -> usize
     }
     // beside the digits there are two bytes, the mark and LF, or three with CR
     let count = (length - 2) / 2;
-    hex::decode(&rest[1..1 + count * 2], out, 0);
+    hexfield::decode(&rest[1..1 + count * 2], out, 0);
     if sound(&out[0..count]) { length } else { 0 }
 }
 
@@ -154,7 +156,7 @@ fn spell(bytes: &[u8], out: &mut [u8], at: usize)
 {
     let end = at + 1 + bytes.len() * 2;
     out[at] = b':';
-    hex::encode(bytes, out, at + 1);
+    hexfield::encode(bytes, out, at + 1);
     out[end] = b'\n';
 }
 

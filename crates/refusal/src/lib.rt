@@ -1,9 +1,11 @@
 // Every refusal of every call, in one enum, with its number and the line that it names; and the answers that a refusal
 // can be part of.
+#![tactic(auto)]
+
 ghost use Rattle.std.specs.Prelude.{◌≡◌};
 ghost use Rattle.refusal.specs.Refusal.{number_of, line_named};
 
-#[derive(Drop)]
+#[derive(Clone, Copy)]
 pub enum Refusal {
     Memory,
     Block,
@@ -26,14 +28,14 @@ pub enum Refusal {
 }
 
 // Whether a call is taken.
-#[derive(Drop)]
+#[derive(Clone, Copy)]
 pub enum Admission {
     Admitted,
     Refused(Refusal),
 }
 
 // What a call with an output answers: how many bytes, or why none.
-#[derive(Drop)]
+#[derive(Clone, Copy)]
 pub enum Done {
     Bytes(usize),
     Refused(Refusal),

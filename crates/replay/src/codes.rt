@@ -35,7 +35,7 @@ const READ_UNPROTECT: u8 = 4;
 const WRITE: u8 = 5;
 
 // A pending command in numbers, 0 where it has none.
-#[derive(Drop)]
+#[derive(Clone, Copy)]
 pub struct Spelled {
     pub kind: u8,
     pub address: u32,

@@ -5,7 +5,7 @@ use loader::{Answer, Stepped};
 use vectors::digest;
 
 // An answer in numbers: which it is, and the reply's length or the refusal's number.
-#[derive(Drop)]
+#[derive(Clone, Copy)]
 struct Spoken {
     letter: usize,
     value: usize,

@@ -2,6 +2,8 @@
 //
 // model/vectors.py makes the file and the text that this program has to print; model/tape.py says
 // what both mean.
+#![tactic(auto)]
+
 mod codes;
 mod line;
 mod record;

@@ -22,7 +22,7 @@ const OPTIONS: usize = Board::OPTION_BYTES;
 pub const OTHERS: usize = Setup::TRANSFER as usize + 1;
 
 // What the step is lent: the device, a request of this length, and so much of each buffer; and the last record's kind.
-#[derive(Drop)]
+#[derive(Clone, Copy)]
 pub struct Lending {
     pub device: Device,
     pub kind: u8,
@@ -33,7 +33,7 @@ pub struct Lending {
 }
 
 // The same as places, which lie in the buffers.
-#[derive(Drop)]
+#[derive(Clone, Copy)]
 pub struct Ends {
     pub from: usize,
     pub to: usize,
@@ -44,7 +44,7 @@ pub struct Ends {
 
 // What a record lays into the buffers: how many bytes of memory are mottled, how many are then the same, and which; how
 // many option bytes; a byte at a place; how many bytes of block and reply buffer.
-#[derive(Drop)]
+#[derive(Clone, Copy)]
 struct Strokes {
     seed: u8,
     mottled: usize,

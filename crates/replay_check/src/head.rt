@@ -22,7 +22,7 @@ pub const CARD: usize = 8;
 const WORK: u16 = marks::LOGGER_WORK as u16;
 
 // A header taken apart: the lengths, and what image and work area are made of.
-#[derive(Drop)]
+#[derive(Clone, Copy)]
 pub struct Job {
     pub image: usize,
     pub factor: u8,
@@ -36,7 +36,7 @@ pub struct Job {
 // A head taken apart: how many bytes follow, how often the last literal comes again, and the part of a ramp that is
 // spelled. Only the one that the head is about is not 0. The bytes of a ramp are modulo 256, so that the low byte of
 // its start will do.
-#[derive(Drop)]
+#[derive(Clone, Copy)]
 pub struct Chunk {
     pub literal: u16,
     pub again: u16,

@@ -2,6 +2,8 @@
 //
 // model/check_vectors.py makes the file and the text that this program has to print; model/jobs.py says
 // what both mean.
+#![tactic(auto)]
+
 mod head;
 mod line;
 mod text;

@@ -5,7 +5,7 @@ use crate::head;
 use crate::head::Chunk;
 
 // How long the text is by now, and where in it its last literal stands.
-#[derive(Drop)]
+#[derive(Clone, Copy)]
 struct Made {
     size: usize,
     at: usize,
@@ -26,7 +26,7 @@ fn spell(text: &mut [u8], size: usize, ramp: &[u8], from: usize, to: usize) -> u
     if (text.len() - size) / 2 < to - from {
         return size;
     }
-    hex::encode(&ramp[from..to], text, size);
+    hexfield::encode(&ramp[from..to], text, size);
     size + (to - from) * 2
 }
 

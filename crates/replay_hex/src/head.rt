@@ -7,7 +7,7 @@ pub const SIZE: usize = 16;
 pub const WRITE: u8 = 1;
 
 // A head taken apart: what is called, and what the input and the buffer are made of.
-#[derive(Drop)]
+#[derive(Clone, Copy)]
 pub struct Vector {
     pub kind: u8,
     pub seed: u8,

@@ -1,6 +1,8 @@
 // Replays the file vectors.bin through the crate ihex, and prints a line for each vector.
 //
 // model/ihex_vectors.py makes the file and the text that this program has to print, and says what both mean.
+#![tactic(auto)]
+
 mod head;
 
 use head::Vector;

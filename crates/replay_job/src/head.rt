@@ -9,7 +9,7 @@ pub const WRITE: u8 = 1;
 pub const TEXT: u8 = 2;
 
 // A head taken apart: what is called, and what the input and the buffer are made of.
-#[derive(Drop)]
+#[derive(Clone, Copy)]
 pub struct Vector {
     pub kind: u8,
     pub seed: u8,

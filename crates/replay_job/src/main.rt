@@ -1,6 +1,8 @@
 // Replays the file vectors.bin through the crates job and text, and prints a line for each call.
 //
 // model/job_vectors.py makes the file and the text that this program has to print, and says what both mean.
+#![tactic(auto)]
+
 mod head;
 mod walk;
 

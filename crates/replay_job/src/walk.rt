@@ -3,7 +3,7 @@ use text::Item;
 
 // Where the walk is, the events that it met, the digest of its items, and whether it is over: 1 at the end, 2 at a
 // malformed line.
-#[derive(Drop)]
+#[derive(Clone, Copy)]
 pub struct Walk {
     pub at: usize,
     pub events: u32,

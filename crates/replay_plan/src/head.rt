@@ -14,7 +14,7 @@ pub const CARD: usize = 16;
 
 // A vector taken apart: the lengths, and what image and output buffer are made of. Of a scattered image all bytes are
 // scattered, of another none.
-#[derive(Drop)]
+#[derive(Clone, Copy)]
 pub struct Vector {
     pub seed: u8,
     pub image: usize,

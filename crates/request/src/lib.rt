@@ -1,10 +1,12 @@
 // A USB request: its setup packet, how much data follows it, and which of the loader's requests it is.
+#![tactic(auto)]
+
 ghost use Rattle.std.specs.Prelude.{◌≡◌, cond, ◌+◌, ◌*◌};
 ghost use Rattle.request.specs.Setup.{setup_of, data_length, fits_of};
 ghost use Rattle.request.specs.Request.{request_of, outward_of, inward_of, asks_of, reads_of};
 
 // The setup packet's fields, in the order of its eight bytes.
-#[derive(Drop)]
+#[derive(Clone, Copy)]
 pub struct Setup {
     pub kind: u8,
     pub code: u8,
@@ -14,7 +16,7 @@ pub struct Setup {
 }
 
 // The requests that the loader knows. What is none of them is Unknown.
-#[derive(Drop)]
+#[derive(Clone, Copy)]
 pub enum Request {
     Download,
     Upload,

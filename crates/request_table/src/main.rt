@@ -1,4 +1,6 @@
 // Prints which request is taken in which mode, as `mode::allowed` answers: the table of docs/REQUESTS.md.
+#![tactic(auto)]
+
 use libc::STDOUT_FILENO;
 use mode::Mode;
 use request::Request;
@@ -7,7 +9,7 @@ use request::Request;
 const ROOM: usize = 128;
 
 // A line of the table: the names of the requests, or a mode with its answers.
-#[derive(Drop)]
+#[derive(Clone, Copy)]
 enum Line {
     Names,
     Answers(Mode),

@@ -6,7 +6,7 @@ use native.Mathlib.Omega.{arith}
 use lib.ListN.{length, take, drop}
 use lib.Seq.{take-append_seam}
 use Rattle.laws.specs.Bytes.{put}
-use Rattle.hex.specs.Hex.{hex_of}
+use Rattle.hexfield.specs.Hex.{hex_of}
 use Rattle.decimal.specs.Decimal.{decimal_of}
 use Rattle.append.specs.Said.{Said, said_of}
 use Rattle.append.proofs.Said.{same_said}

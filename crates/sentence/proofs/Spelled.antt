@@ -3,7 +3,7 @@ use mathlib.Core.Path.{◌≡◌}
 use mathlib.Core.List.{List, [], ◌∷◌}
 use Prim.Native.Nat.{ℕ, ◌%◌}
 use borrow.Author.Tests.{ne_eqb}
-use Rattle.hex.specs.Hex.{hex_of}
+use Rattle.hexfield.specs.Hex.{hex_of}
 use Rattle.decimal.specs.Decimal.{decimal_of}
 use Rattle.sentence.specs.Address.{address_of}
 use Rattle.sentence.specs.Sentence.{number, address, byte, text, opens, bar, closes, spelled_of}

@@ -1,7 +1,7 @@
 -- How an address is said: for the words of programs, and no rule of the paper. Assumes nothing.
 use Rattle.std.specs.Prelude.{List, [], ◌∷◌, ◌++◌, ℕ, ◌/◌, ◌%◌}
 use Rattle.laws.specs.Ascii.{ascii}
-use Rattle.hex.specs.Hex.{hex_of}
+use Rattle.hexfield.specs.Hex.{hex_of}
 
 -- the four bytes of a 32-bit number, high byte first
 abbrev pub high_first : ℕ → List ℕ

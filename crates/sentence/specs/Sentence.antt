@@ -1,6 +1,6 @@
 -- What a template says with its gaps filled: for the words of programs, and no rule of the paper. Assumes nothing.
 use Rattle.std.specs.Prelude.{cond, ◌||◌, List, [], ◌∷◌, ◌++◌, ℕ, ◌+◌, ◌%◌, eqb, ltb, drop, get_or}
-use Rattle.hex.specs.Hex.{hex_of}
+use Rattle.hexfield.specs.Hex.{hex_of}
 use Rattle.decimal.specs.Decimal.{decimal_of}
 use Rattle.sentence.specs.Address.{address_of}
 

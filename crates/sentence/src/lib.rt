@@ -3,8 +3,10 @@
 // In a template # stands for a number in decimal, @ for one as an address, % for one as a byte in two digits, $ for a
 // text, and [a|b|c] for the part that a number picks, counted from 0, or for the last where there are not so many. Each
 // of them takes the next number or text, also in a part that is not picked. All else stands for itself.
+#![tactic(auto)]
+
 ghost use Rattle.std.specs.Prelude.{◌≡◌, cond, [], ◌∷◌, ◌+◌, ◌≤◌, ◌<◌, eqb, length, drop, get_or};
-ghost use Rattle.hex.specs.Hex.{hex_of};
+ghost use Rattle.hexfield.specs.Hex.{hex_of};
 ghost use Rattle.decimal.specs.Decimal.{decimal_of};
 ghost use Rattle.sentence.specs.Address.{high_first, address_of};
 ghost use Rattle.append.specs.Said.{left, said_of};
@@ -44,7 +46,7 @@ fn address(address: u32, out: &mut [u8], at: usize) -> usize
     ensures { left result out.new ≡ said_of (address_of address) out.old at }
 {
     let mut digits = *b"0x00000000";
-    hex::encode(&high_first(address), &mut digits, 2);
+    hexfield::encode(&high_first(address), &mut digits, 2);
     append::say(&digits, out, at)
 }
 
@@ -53,7 +55,7 @@ fn digits(byte: u8, out: &mut [u8], at: usize) -> usize
     ensures { left result out.new ≡ said_of (hex_of (byte ∷ [])) out.old at }
 {
     let mut field = *b"00";
-    hex::encode(&[byte], &mut field, 0);
+    hexfield::encode(&[byte], &mut field, 0);
     append::say(&field, out, at)
 }
 

@@ -1,4 +1,6 @@
 // Which states the loader can be in: the pointer in a region, a command pending where one can be, a status that fits.
+#![tactic(auto)]
+
 ghost use Rattle.std.specs.Prelude.{◌≡◌};
 ghost use Rattle.states.specs.WellFormed.{well_formed, in_region, pending_fits, write_fits, status_fits};
 

@@ -1,5 +1,7 @@
 // Telling a verdict: the line that it is printed by, a file that is read or refused, and what it takes to explain a
 // verdict: the job's events, packed, where only boards that live through them can tell why.
+#![tactic(auto)]
+
 ghost use Rattle.std.specs.Prelude.{◌≡◌};
 ghost use Rattle.refusal.specs.Delivery.{delivery};
 ghost use Rattle.files.specs.Came.{Came};

@@ -11,8 +11,8 @@ use Rattle.laws.specs.Lines.{first_line, lines_of}
 use Rattle.laws.proofs.Lines.{first_rest, first_some, lines_first, joined, joined_lines}
 use Rattle.digit.specs.Digit.{capital_of}
 use Rattle.digit.proofs.Values.{capital_below, capital_ends}
-use Rattle.hex.specs.Hex.{capitals}
-use Rattle.hex.proofs.Capitals.{capitals-append, capitals-length}
+use Rattle.hexfield.specs.Hex.{capitals}
+use Rattle.hexfield.proofs.Capitals.{capitals-append, capitals-length}
 use Rattle.line.specs.Line.{capital_line}
 use Rattle.line.proofs.CapitalLine.{capital_capitals, capital_same_length, capital_line_stays, event_capital}
 use Rattle.line.proofs.Formed.{formed_capital}

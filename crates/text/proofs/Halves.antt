@@ -6,8 +6,8 @@ use native.Mathlib.Omega.{arith}
 use lib.ListN.{take, drop, get_or}
 use lib.Seq.{get_or-take, get_or-drop}
 use Rattle.request.specs.Setup.{setup_of}
-use Rattle.hex.specs.Hex.{bytes_of}
-use Rattle.hex.proofs.Fields.{bytes_of_take, bytes_of_drop}
+use Rattle.hexfield.specs.Hex.{bytes_of}
+use Rattle.hexfield.proofs.Fields.{bytes_of_take, bytes_of_drop}
 
 -- the setup whose first bytes one half of the field spells, and the others the other half
 pub setup_halves : (ds front back : List ℕ) → front ≡ bytes_of (take 8 ds) → back ≡ bytes_of (take 8 (drop 8 ds)) → setup_of (get_or front 0 0 ∷ get_or front 1 0 ∷ get_or front 2 0 ∷ get_or front 3 0 ∷ get_or back 0 0 ∷ get_or back 1 0 ∷ get_or back 2 0 ∷ get_or back 3 0 ∷ []) ≡ setup_of (bytes_of ds)

@@ -9,7 +9,7 @@ use lib.Seq.{get_or-drop}
 use Rattle.laws.proofs.Bytes.{rest_is}
 use Rattle.request.specs.Setup.{setup_of, data_length}
 use Rattle.request.specs.declared.Setup.{Setup}
-use Rattle.hex.specs.Hex.{all_digits, bytes_of}
+use Rattle.hexfield.specs.Hex.{all_digits, bytes_of}
 use Rattle.text.specs.declared.Item.TheVariants as item
 use Rattle.line.specs.Ways.{line_length}
 use Rattle.laws.specs.Lines.{first_line}

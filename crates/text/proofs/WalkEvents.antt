@@ -9,7 +9,7 @@ use lib.Seq.{length-take-le, drop-drop, drop_at}
 use Rattle.laws.proofs.Split.{by_eq, by_lt}
 use Rattle.request.specs.Setup.{setup_of, data_length}
 use Rattle.request.specs.declared.Setup.{Setup}
-use Rattle.hex.specs.Hex.{all_digits, bytes_of}
+use Rattle.hexfield.specs.Hex.{all_digits, bytes_of}
 use Rattle.text.specs.declared.Item.{Item}
 use Rattle.text.specs.declared.Item.TheVariants as item
 use Rattle.line.specs.Event.{Event, attach, request}

@@ -11,7 +11,7 @@ use borrow.Author.Tests.{lt-leb, le-leb}
 use Rattle.laws.proofs.Bytes.{rest_is}
 use Rattle.request.specs.Setup.{setup_of}
 use Rattle.request.specs.declared.Setup.{Setup}
-use Rattle.hex.specs.Hex.{all_digits, bytes_of}
+use Rattle.hexfield.specs.Hex.{all_digits, bytes_of}
 use Rattle.text.specs.declared.Item.TheVariants as item
 use Rattle.line.specs.Event.{Event, attach, request}
 use Rattle.line.specs.Ways.{line_length}

@@ -1,7 +1,9 @@
 // The job text, walked in place: what stands where.
+#![tactic(auto)]
+
 ghost use Rattle.std.specs.Prelude.{◌≡◌, true, ◌<◌, length, drop};
 ghost use Rattle.request.specs.Setup.{setup_of};
-ghost use Rattle.hex.specs.Hex.{all_digits, bytes_of};
+ghost use Rattle.hexfield.specs.Hex.{all_digits, bytes_of};
 ghost use Rattle.laws.specs.Lines.{first_line};
 ghost use Rattle.line.specs.Line.{well_spelled};
 ghost use Rattle.text.specs.Walk.{item_of};
@@ -12,7 +14,7 @@ use request::Setup;
 pub const LIMIT: usize = 60000;
 
 // What stands at a place of a text: its end, a malformed line, or an event with the place of the line after it.
-#[derive(Drop)]
+#[derive(Clone, Copy)]
 pub enum Item {
     End,
     Bad,

@@ -7,33 +7,33 @@ use native.Mathlib.Omega.{arith}
 use native.Mathlib.Numerals.{add-one}
 use lib.ListN.{length, get_or}
 use borrow.Author.Tests.{eq-eqb, ne_eqb}
-use Rattle.board.specs.declared.Board.{Board}
+use Rattle.board.specs.Layout.{logger}
 use Rattle.protection.specs.Protection.{word_of}
 use Rattle.flash.specs.Flash.{kept}
 use Rattle.trial.specs.Trial.{first_written}
 
-module _ (board : Board) (m : List ℕ) (word i : ℕ) (is : word ≡ word_of board m) (more : i < length m) where
+module _ (m : List ℕ) (word i : ℕ) (is : word ≡ word_of logger m) (more : i < length m) where
   -- a turn at an erased byte, at one of a write-protected page, and at one that is in the way
-  pub written_erased : get_or m i 0 ≡ 0xFF → first_written board m (length m - (i + 1)) (i + 1) ≡ first_written board m (length m - i) i
+  pub written_erased : get_or m i 0 ≡ 0xFF → first_written m (length m - (i + 1)) (i + 1) ≡ first_written m (length m - i) i
   unfolding first_written
   written_erased e =
       let k : length m - i ≡ suc (length m - (i + 1)) = omega arith in
       rw (k, eq-eqb (get_or m i 0) 0xFF e, add-one i) refl
 
-  pub written_kept : (get_or m i 0 ≡ 0xFF → ⊥) → kept board word i ≡ true → first_written board m (length m - (i + 1)) (i + 1) ≡ first_written board m (length m - i) i
+  pub written_kept : (get_or m i 0 ≡ 0xFF → ⊥) → kept logger word i ≡ true → first_written m (length m - (i + 1)) (i + 1) ≡ first_written m (length m - i) i
   unfolding first_written
   written_kept n e =
       let k : length m - i ≡ suc (length m - (i + 1)) = omega arith in
       rw (k, ne_eqb (get_or m i 0) 0xFF n, ← is, e, add-one i) refl
 
-  pub written_found : (get_or m i 0 ≡ 0xFF → ⊥) → kept board word i ≡ false → first_written board m (length m - i) i ≡ i
+  pub written_found : (get_or m i 0 ≡ 0xFF → ⊥) → kept logger word i ≡ false → first_written m (length m - i) i ≡ i
   unfolding first_written
   written_found n e =
       let k : length m - i ≡ suc (length m - (i + 1)) = omega arith in
       rw (k, ne_eqb (get_or m i 0) 0xFF n, ← is, e) refl
 
-pub written_end : (board : Board) (m : List ℕ) (i : ℕ) → length m ≤ i → first_written board m (length m - i) i ≡ i
+pub written_end : (m : List ℕ) (i : ℕ) → length m ≤ i → first_written m (length m - i) i ≡ i
 unfolding first_written
-written_end board m i h =
+written_end m i h =
     let k : length m - i ≡ 0 = omega arith in
     rw k refl

@@ -1,10 +1,9 @@
 -- A single board that lives through a packed job: no rule of the paper, but what explanations go by. Assumes nothing.
 use Rattle.std.specs.Prelude.{false, cond, ◌||◌, List, ℕ, zero, suc, ◌+◌, ◌-◌, eqb, ltb, length, take, drop, get_or, replicate}
 use Rattle.laws.specs.Bytes.{put, filled}
-use Rattle.board.specs.declared.Board.{Board}
 use Rattle.board.specs.declared.Place.{Place}
 use Rattle.board.specs.declared.Place.TheVariants.{Flash, Ram, Options, Outside}
-use Rattle.board.specs.Layout.{options_from, option_bytes, memory_bytes}
+use Rattle.board.specs.Layout.{logger, options_from, option_bytes, memory_bytes}
 use Rattle.board.specs.Memory.{options_of}
 use Rattle.board.specs.Span.{place_of}
 use Rattle.protection.specs.Protection.{word_of, read_protected}
@@ -36,8 +35,8 @@ leaving_of Left = 1
 leaving_of Rebooting = 0
 
 -- nothing has happened yet, and the watched byte is this one
-abbrev pub unplayed : Board → ℕ → Scene
-unplayed board byte = record { device = started board; count = 0; at = 0; byte = byte; changed = 0; earlier = 0; pointed = 0; left = 0; is_protected = false; dirt = 0; altered = 0 }
+abbrev pub unplayed : ℕ → Scene
+unplayed byte = record { device = started logger; count = 0; at = 0; byte = byte; changed = 0; earlier = 0; pointed = 0; left = 0; is_protected = false; dirt = 0; altered = 0 }
 
 -- the event in this line, up to place `at` of the job, leaves the device and the byte so; the line is noted for what it changed
 abbrev pub next_of : Scene → ℕ → ℕ → Device → ℕ → Scene
@@ -72,21 +71,21 @@ abbrev pub lived_on : Scene → ℕ → ℕ → ℕ → Outcome → Life
 lived_on s place line end o = life (next_of s line end o.device (get_or o.memory place 0)) o.memory o.block o.reply
 
 -- the next event of the job happens, in this line
-unfoldable pub turn_of : Board → List ℕ → ℕ → ℕ → Life → Life
-turn_of board packed place line l =
+unfoldable pub turn_of : List ℕ → ℕ → ℕ → Life → Life
+turn_of packed place line l =
     let rest = drop l.scene.at packed in
     lived_on l.scene place line (l.scene.at + piece_length rest)
-    (played_of board l.scene.device (take (piece_length rest) rest) l.memory l.block l.reply)
+    (played_of l.scene.device (take (piece_length rest) rest) l.memory l.block l.reply)
 
 -- the next so many events, as far as the job has them; `line` is the last that happened
-unfoldable pub lives_of : Board → List ℕ → ℕ → ℕ → ℕ → Life → Life
-lives_of board packed place zero line l = l
-lives_of board packed place (suc n) line l = cond (ltb l.scene.at (length packed)) (lives_of board packed place n (suc line) (turn_of board packed place (suc line) l)) l
+unfoldable pub lives_of : List ℕ → ℕ → ℕ → ℕ → Life → Life
+lives_of packed place zero line l = l
+lives_of packed place (suc n) line l = cond (ltb l.scene.at (length packed)) (lives_of packed place n (suc line) (turn_of packed place (suc line) l)) l
 
 -- of so many places from place i on, the first that is not erased and not in a write-protected page, or the place behind them
-unfoldable pub first_written : Board → List ℕ → ℕ → ℕ → ℕ
-first_written board m zero i = i
-first_written board m (suc n) i = cond (eqb (get_or m i 0) 0xFF || kept board (word_of board m) i) (first_written board m n (suc i)) i
+unfoldable pub first_written : List ℕ → ℕ → ℕ → ℕ
+first_written m zero i = i
+first_written m (suc n) i = cond (eqb (get_or m i 0) 0xFF || kept logger (word_of logger m) i) (first_written m n (suc i)) i
 
 -- a place in flash, and the front of memory for any other
 abbrev pub flash_place : Place → ℕ
@@ -96,18 +95,18 @@ flash_place (Options at) = 0
 flash_place Outside = 0
 
 -- the place where the write that waits begins, if it is one into flash
-abbrev pub target_of : Board → ℕ → Pending → ℕ
-target_of board pointer Nothing = 0
-target_of board pointer (SetPointer address) = 0
-target_of board pointer (ErasePage address) = 0
-target_of board pointer MassErase = 0
-target_of board pointer ReadUnprotect = 0
-target_of board pointer (Write block count) = flash_place (place_of board (block_address transfer_bytes block pointer) count)
+abbrev pub target_of : ℕ → Pending → ℕ
+target_of pointer Nothing = 0
+target_of pointer (SetPointer address) = 0
+target_of pointer (ErasePage address) = 0
+target_of pointer MassErase = 0
+target_of pointer ReadUnprotect = 0
+target_of pointer (Write block count) = flash_place (place_of logger (block_address transfer_bytes block pointer) count)
 
 -- what the memory is like then: read protection, the first byte in the way of the write that waits, the first option that is not the card's
-unfoldable pub surveyed : Board → Scene → List ℕ → List ℕ → Scene
-surveyed board s m card =
-    let from = target_of board s.device.pointer s.device.pending in
+unfoldable pub surveyed : Scene → List ℕ → List ℕ → Scene
+surveyed s m card =
+    let from = target_of s.device.pointer s.device.pending in
     record {
       device = s.device;
       count = s.count;
@@ -117,28 +116,28 @@ surveyed board s m card =
       earlier = s.earlier;
       pointed = s.pointed;
       left = s.left;
-      is_protected = read_protected board m;
-      dirt = first_written board m (length m - from) from;
-      altered = first_change (options_of board m) card option_bytes 0;
+      is_protected = read_protected logger m;
+      dirt = first_written m (length m - from) from;
+      altered = first_change (options_of logger m) card option_bytes 0;
     }
 
 -- the memory of a board whose flash and RAM are all `old`, with the options of the card; as it was where the card has another length
-unfoldable pub equipped : Board → ℕ → List ℕ → List ℕ → List ℕ
-equipped board old card m =
-    cond (eqb (length card) option_bytes) (put (options_from board) card (filled 0 (memory_bytes board) old m)) m
+unfoldable pub equipped : ℕ → List ℕ → List ℕ → List ℕ
+equipped old card m =
+    cond (eqb (length card) option_bytes) (put (options_from logger) card (filled 0 (memory_bytes logger) old m)) m
 
 -- so many zero bytes
 abbrev pub zeros : ℕ → List ℕ
 zeros n = replicate n 0
 
 -- a board with this memory that was just plugged in
-abbrev pub born : Board → ℕ → List ℕ → Life
-born board place m = life (unplayed board (get_or m place 0)) m (zeros transfer_bytes) (zeros transfer_bytes)
+abbrev pub born : ℕ → List ℕ → Life
+born place m = life (unplayed (get_or m place 0)) m (zeros transfer_bytes) (zeros transfer_bytes)
 
 -- what is known in the end
-abbrev pub last_of : Board → List ℕ → Life → Scene
-last_of board card l = surveyed board l.scene l.memory card
+abbrev pub last_of : List ℕ → Life → Scene
+last_of card l = surveyed l.scene l.memory card
 
 -- the first events of a job on a board with this card, whose flash and RAM were all `old`; the byte at `place` is watched
-unfoldable pub trial_of : Board → List ℕ → ℕ → List ℕ → ℕ → ℕ → Scene
-trial_of board packed events card old place = last_of board card (lives_of board packed place events 0 (born board place (equipped board old card (zeros (memory_bytes board)))))
+unfoldable pub trial_of : List ℕ → ℕ → List ℕ → ℕ → ℕ → Scene
+trial_of packed events card old place = last_of card (lives_of packed place events 0 (born place (equipped old card (zeros (memory_bytes logger)))))

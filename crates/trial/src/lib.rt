@@ -3,9 +3,10 @@
 // Where an event fails on some board, it fails on the one whose flash and RAM are all zero, and no event before it
 // does: this is the board by which the checker's proof shows that a rejected job is rightly rejected. Whatever a job
 // does to a byte of flash changes it there, for it erases it first.
+#![tactic(auto)]
+
 ghost use Rattle.std.specs.Prelude.{◌≡◌, cond, ◌-◌, ◌≤◌, length, get_or};
 ghost use Rattle.board.specs.Layout.{logger, memory_bytes};
-ghost use Rattle.board.specs.Sound.{Sound};
 ghost use Rattle.trial.specs.Trial.{flash_place, leaving_of, unplayed, next_of, life, turn_of, lives_of, first_written, target_of, surveyed, equipped, trial_of};
 
 use board::{Board, Place};
@@ -21,9 +22,9 @@ const TRANSFER: usize = Setup::TRANSFER as usize;
 // `byte` is the byte that is watched; the last line that changed it, and the one before that which did; the last line
 // that moved the pointer, and the last by which the loader leaves, or stays after all. Then, of the memory: is it
 // read-protected; `dirt`, the first place whose byte is neither erased nor in a write-protected page, from where the
-// write that waits begins in flash, or from the front where none waits for flash; and the first option byte that is not the
+// write that waits begins in flash, or from the front where none waits; and the first option byte that is not the
 // card's.
-#[derive(Drop)]
+#[derive(Clone, Copy)]
 pub struct Scene {
     pub device: Device,
     pub count: usize,
@@ -39,15 +40,15 @@ pub struct Scene {
 }
 
 // A board whose flash and RAM are all `old`, with the options of the card.
-fn equip(board: Board, memory: &mut [u8], old: u8, card: &[u8])
-    requires { Sound board × (length memory.old ≡ memory_bytes board) }
-    ensures { memory.new ≡ equipped board old card.now memory.old }
+fn equip(memory: &mut [u8], old: u8, card: &[u8])
+    requires { length memory.old ≡ memory_bytes logger }
+    ensures { memory.new ≡ equipped old card.now memory.old }
 {
     if card.len() != Board::OPTION_BYTES {
         return;
     }
-    buffer::fill(memory, 0, board.memory_bytes(), old);
-    buffer::put(memory, board.options_from(), card);
+    buffer::fill(memory, 0, Board::LOGGER.memory_bytes(), old);
+    buffer::put(memory, Board::LOGGER.options_from(), card);
 }
 
 // 1 where the loader is about to leave, or has left.
@@ -74,11 +75,11 @@ fn latest(is_same: bool, last: usize, line: usize) -> usize
 }
 
 // Nothing has happened yet.
-fn first(board: Board, byte: u8) -> Scene
-    ensures { result ≡ unplayed board byte }
+fn first(byte: u8) -> Scene
+    ensures { result ≡ unplayed byte }
 {
     Scene {
-        device: Device::start(board),
+        device: Device::start(Board::LOGGER),
         count: 0,
         at: 0,
         byte,
@@ -124,7 +125,7 @@ fn turn(
     reply: &mut [u8],
 ) -> Scene
     requires { scene.at ≤ length packed.now }
-    ensures { (life result memory.new block.new reply.new ≡ turn_of logger packed.now place line (life scene memory.old block.old reply.old)) × (result.at ≤ length packed.now) }
+    ensures { (life result memory.new block.new reply.new ≡ turn_of packed.now place line (life scene memory.old block.old reply.old)) × (result.at ≤ length packed.now) }
 {
     let at = scene.at;
     let end = at + packed::piece_length(&packed[at..]);
@@ -142,9 +143,9 @@ fn live(
     block: &mut [u8],
     reply: &mut [u8],
 ) -> Scene
-    ensures { life result memory.new block.new reply.new ≡ lives_of logger packed.now place events 0 (life (unplayed logger (get_or memory.old place 0)) memory.old block.old reply.old) }
+    ensures { life result memory.new block.new reply.new ≡ lives_of packed.now place events 0 (life (unplayed (get_or memory.old place 0)) memory.old block.old reply.old) }
 {
-    let mut scene = first(Board::LOGGER, buffer::byte_at(memory, place));
+    let mut scene = first(buffer::byte_at(memory, place));
     let mut count = 0;
     while count < events {
         if packed.len() <= scene.at {
@@ -157,13 +158,13 @@ fn live(
 }
 
 // The first place from `from` on whose byte is not erased, outside write-protected pages.
-fn first_written(board: Board, memory: &[u8], from: usize) -> usize
-    ensures { result ≡ first_written board memory.now (length memory.now - from) from }
+fn first_written(memory: &[u8], from: usize) -> usize
+    ensures { result ≡ first_written memory.now (length memory.now - from) from }
 {
-    let word = protection::protection_word(board, memory);
+    let word = protection::protection_word(Board::LOGGER, memory);
     let mut i = from;
     while i < memory.len() {
-        if memory[i] != 0xFF && !flash::is_kept(board, word, i) {
+        if memory[i] != 0xFF && !flash::is_kept(Board::LOGGER, word, i) {
             return i;
         }
         i += 1;
@@ -184,8 +185,8 @@ fn in_flash(place: Place) -> usize
 }
 
 // The place where the write that waits begins, if it is one into flash.
-fn aim(board: Board, pointer: u32, pending: Pending) -> usize
-    ensures { result ≡ target_of board pointer pending }
+fn aim(pointer: u32, pending: Pending) -> usize
+    ensures { result ≡ target_of pointer pending }
 {
     match pending {
         Pending::Nothing => 0,
@@ -195,24 +196,24 @@ fn aim(board: Board, pointer: u32, pending: Pending) -> usize
         Pending::ReadUnprotect => 0,
         Pending::Write { block, count } => {
             let address = access::block_address(block, pointer);
-            in_flash(board.place(address, count as u64))
+            in_flash(Board::LOGGER.place(address, count as u64))
         }
     }
 }
 
 // What the memory is like then.
-fn survey(board: Board, scene: Scene, memory: &[u8], card: &[u8]) -> Scene
-    requires { Sound board × (length memory.now ≡ memory_bytes board) }
-    ensures { result ≡ surveyed board scene memory.now card.now }
+fn survey(scene: Scene, memory: &[u8], card: &[u8]) -> Scene
+    requires { length memory.now ≡ memory_bytes logger }
+    ensures { result ≡ surveyed scene memory.now card.now }
 {
     let device = scene.device;
     let pending = device.pending;
-    let from = aim(board, device.pointer, pending);
-    let options = board.options_from();
+    let from = aim(device.pointer, pending);
+    let options = Board::LOGGER.options_from();
     let behind = options + Board::OPTION_BYTES;
     Scene {
-        is_protected: protection::read_protected(board, memory),
-        dirt: first_written(board, memory, from),
+        is_protected: protection::read_protected(Board::LOGGER, memory),
+        dirt: first_written(memory, from),
         altered: compare::first_change(&memory[options..behind], card, 0, Board::OPTION_BYTES),
         ..scene
     }
@@ -220,13 +221,12 @@ fn survey(board: Board, scene: Scene, memory: &[u8], card: &[u8]) -> Scene
 
 // The first `events` events of a job on a board with this card, whose flash and RAM were all `old`.
 pub fn run(packed: &[u8], events: usize, card: &[u8], old: u8, place: usize) -> Scene
-    ensures { result ≡ trial_of logger packed.now events card.now old place }
+    ensures { result ≡ trial_of packed.now events card.now old place }
 {
-    let board = Board::LOGGER;
     let mut memory = [0u8; Board::LOGGER_MEMORY];
     let mut block = [0u8; TRANSFER];
     let mut reply = [0u8; TRANSFER];
-    equip(board, &mut memory, old, card);
+    equip(&mut memory, old, card);
     let scene = live(packed, events, place, &mut memory, &mut block, &mut reply);
-    survey(board, scene, &memory, card)
+    survey(scene, &memory, card)
 }

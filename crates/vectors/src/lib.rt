@@ -2,6 +2,8 @@
 // digests.
 //
 // Every function takes any numbers and any buffers; what finds no room is left out.
+#![tactic(auto)]
+
 ghost use Rattle.std.specs.Prelude.{◌≡◌, ◌+◌, ◌-◌, ◌*◌, ◌<◌, true};
 ghost use Rattle.vectors.specs.Vectors.{ramped_of, room_for, left, repeats_of, repeated_of, mix_of, mixed_of, small_of, small_at, letter_of, respelled_of};
 

@@ -1,4 +1,6 @@
 // What is to be said of a job, and the line that says it.
+#![tactic(auto)]
+
 ghost use Rattle.std.specs.Prelude.{◌≡◌, [], ◌++◌, ◌≤◌, length};
 ghost use Rattle.laws.specs.Bytes.{put};
 ghost use Rattle.refusal.specs.Delivery.{delivery, delivered};
@@ -6,7 +8,7 @@ ghost use Rattle.verdict.specs.Report.{in_fields, tab, report_line};
 
 use refusal::{Done, Refusal};
 
-#[derive(Drop)]
+#[derive(Clone, Copy)]
 pub enum Verdict {
     Pass,
     // The event, from 1, that fails on some board.

@@ -12,8 +12,8 @@ use lib.Bits.{bit_and, and_block, and_mask}
 use Rattle.wide.specs.Wide.{joined_of}
 use Rattle.digit.specs.Digit.{value_of, byte_of}
 use Rattle.digit.proofs.Values.{half_value}
-use Rattle.hex.specs.Hex.{all_digits, bytes_of}
-use Rattle.hex.proofs.Fields.{digits_cons}
+use Rattle.hexfield.specs.Hex.{all_digits, bytes_of}
+use Rattle.hexfield.proofs.Fields.{digits_cons}
 
 -- the number of a field from place i on: its lowest byte, and the others
 number_from : (ds : List ℕ) (i : ℕ) → i < length ds → joined_of (drop i ds) ≡ joined_of (drop (suc i) ds) * 256 + get_or ds i 0

@@ -1,8 +1,10 @@
 // Hexadecimal, eight digits at a time: a number holds them as its eight bytes, and no sum crosses from one into the
 // next.
+#![tactic(auto)]
+
 ghost use Rattle.std.specs.Prelude.{◌≡◌, true, map, ◌+◌, ◌*◌, length};
 ghost use Rattle.digit.specs.Digit.{value_of};
-ghost use Rattle.hex.specs.Hex.{all_digits, bytes_of};
+ghost use Rattle.hexfield.specs.Hex.{all_digits, bytes_of};
 ghost use Rattle.wide.specs.Wide.{joined_of};
 
 // Eight bytes as one number, the first the lowest.

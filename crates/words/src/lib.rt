@@ -1,6 +1,8 @@
 // Words for people: the names of requests, modes and statuses, said into a lent buffer.
 //
 // Each function gives the place behind what it wrote. What finds no room is left out.
+#![tactic(auto)]
+
 ghost use Rattle.std.specs.Prelude.{◌≡◌, cond, ◌≤◌, eqb};
 ghost use Rattle.decimal.specs.Decimal.{decimal_of};
 ghost use Rattle.words.specs.Names.{names_length, names_from};
@@ -13,7 +15,7 @@ use request::Request;
 
 // Where a name stands in the text of all names. The arms that find it give numbers and no text: what the prover
 // walks grows with the arms times all that is alive in them.
-#[derive(Drop)]
+#[derive(Clone, Copy)]
 struct Part {
     from: usize,
     to: usize,

@@ -1,6 +1,6 @@
 -- `area::byte_in` meets its contract. Assumes nothing.
 use Rattle.area.proofs.Answers.{field_past}
-use Rattle.hex.proofs.Fields.{byte_of_lem, digit_at}
+use Rattle.hexfield.proofs.Fields.{byte_of_lem, digit_at}
 use native.Mathlib.Omega.{arith}
 use mathlib.Core.Path.{◌∙◌, sym}
 use borrow.Author.Rules.{rules}

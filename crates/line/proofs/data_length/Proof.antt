@@ -4,7 +4,7 @@ use Prim.Native.Nat.{ℕ, ◌<◌}
 use native.Mathlib.Omega.{arith}
 use lib.ListN.{get_or}
 use Rattle.digit.specs.Digit.{value_of}
-use Rattle.hex.proofs.Fields.{digit_at}
+use Rattle.hexfield.proofs.Fields.{digit_at}
 use Rattle.request.specs.declared.Setup.{Setup}
 use Rattle.line.proofs.Fields.{length_fields, length_none}
 use borrow.Author.Rules.{rules}

@@ -1,6 +1,6 @@
 -- `line::request_length` meets its contract. Assumes nothing.
 use Rattle.line.proofs.LineLength.{too_short, no_tab, no_second_tab, no_setup, data_short, no_end, no_data, request-line}
-use Rattle.hex.specs.Hex.{bytes_of}
+use Rattle.hexfield.specs.Hex.{bytes_of}
 use Rattle.request.specs.Setup.{setup_of, data_length}
 use lib.ListN.{take, drop}
 use borrow.Author.Tests.{not-true, not-false}

@@ -53,7 +53,7 @@ returns c =
     let s = b.before.before.before in
     let g = s.before.before in
     let f = g.before in
-    asked_by _ _ _ _ _ _ _ f.behind.result g.behind2.result f.before.before.before.args.piece.now f.before.kind.ensures f.behind.ensures.0 g.behind2.ensures.0 s.of.ensures b.before.of2.ensures b.start.ensures d.decide.ensures c.waits.ensures
+    asked_by _ _ _ _ _ _ f.behind.result g.behind2.result f.before.before.before.args.piece.now f.before.kind.ensures f.behind.ensures.0 g.behind2.ensures.0 s.of.ensures b.before.of2.ensures b.start.ensures d.decide.ensures c.waits.ensures
 
 pub asks-spec : {M : Type 1} → statement M
 asks-spec =

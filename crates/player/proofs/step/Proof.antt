@@ -36,7 +36,7 @@ returns : tie.Need-returns
 returns c =
     let s = c.before.before.before.before.before.before in
     let r = s.before.before.before.before.before in
-    s.step.ensures ∙ played_by _ _ _ r.behind.result r.before.before.before.before.before.before.args.piece.now _ _ _ r.before.kind.ensures r.behind.ensures.0
+    s.step.ensures ∙ played_by _ _ r.behind.result r.before.before.before.before.before.before.args.piece.now _ _ _ r.before.kind.ensures r.behind.ensures.0
 
 pub step_spec : {M : Type 1} → statement M
 step_spec =

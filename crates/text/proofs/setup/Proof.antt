@@ -2,7 +2,7 @@
 use mathlib.Core.Path.{◌∙◌}
 use native.Mathlib.Omega.{arith}
 use lib.ListN.{length-take, length-drop}
-use Rattle.hex.proofs.Fields.{digits_take, digits_drop}
+use Rattle.hexfield.proofs.Fields.{digits_take, digits_drop}
 use Rattle.text.proofs.Halves.{setup_halves}
 use borrow.Author.Rules.{rules}
 use Rattle.text.proofs.setup.Statement.{statement}

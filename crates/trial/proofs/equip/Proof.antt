@@ -1,11 +1,13 @@
 -- `trial::equip` meets its contract. Assumes nothing.
+use Rattle.board.proofs.Logger.{logger-sound}
 use Rattle.trial.proofs.Turns.{equip_card, equip_none}
+use native.Mathlib.Omega.{arith}
 use borrow.Author.Rules.{rules}
 use Rattle.trial.proofs.equip.Statement.{statement}
 use Rattle.trial.proofs.equip.Tie as tie
 
 returns : tie.Need-returns
-returns c = equip_none _ _ _ _ c.if1.true
+returns c = equip_none _ _ _ c.if1.true
 
 memory-bytes-requires : tie.Need-memory-bytes-requires
 memory-bytes-requires c κs = search rules
@@ -17,7 +19,7 @@ options-from-requires : tie.Need-options-from-requires
 options-from-requires c κs = search rules
 
 put-requires : tie.Need-put-requires
-put-requires c κs = search rules
+put-requires c κs = omega (arith, logger-sound.options_in_memory)
 
 same_length : tie.Need-same-length
 same_length c = search rules
@@ -27,7 +29,7 @@ returns-2 c =
     let p = c.before.before in
     let o = p.before in
     let f = o.before.before.before.before in
-    equip_card _ _ _ _ _ _ _ _ f.before.before.before.if1.false f.before.memory-bytes.ensures.0 o.options-from.ensures.0 f.fill.ensures p.put.ensures
+    equip_card _ _ _ _ _ _ _ f.before.before.before.if1.false f.before.memory-bytes.ensures.0 o.options-from.ensures.0 f.fill.ensures p.put.ensures
 
 pub equip-spec : {M : Type 1} → statement M
 equip-spec =

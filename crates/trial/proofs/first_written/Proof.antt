@@ -12,10 +12,10 @@ use Rattle.trial.proofs.first_written.Statement.{statement}
 use Rattle.trial.proofs.first_written.Tie as tie
 
 abbrev invariant-loop : tie.invariant-loop
-invariant-loop board memory from word i₀ i = first_written board memory (length memory - i) i ≡ first_written board memory (length memory - from) from
+invariant-loop memory from word i₀ i = first_written memory (length memory - i) i ≡ first_written memory (length memory - from) from
 
 abbrev decreases-loop : tie.decreases-loop
-decreases-loop board memory from word i₀ i = length memory - i
+decreases-loop memory from word i₀ i = length memory - i
 
 protection-word-requires : tie.Need-protection-word-requires invariant-loop decreases-loop
 protection-word-requires c κs = search rules
@@ -33,7 +33,7 @@ returns : tie.Need-returns invariant-loop decreases-loop
 returns c =
     let w = c.before in
     let l = w.before.before.before.before in
-    sym (written_found _ _ _ _ l.before.protection-word.ensures w.before.before.before.loop-test.true w.before.if1.true (sym w.is-kept.ensures ∙ not-true _ c.if2.true)) ∙ l.loop.invariant
+    sym (written_found _ _ _ l.before.protection-word.ensures w.before.before.before.loop-test.true w.before.if1.true (sym w.is-kept.ensures ∙ not-true _ c.if2.true)) ∙ l.loop.invariant
 
 add-i : tie.Need-overflow-add-i invariant-loop decreases-loop
 add-i c = omega arith
@@ -47,12 +47,12 @@ loop-again c =
     let is = l.before.protection-word.ensures in
     let more = c.before.before.loop-test.true in
     ⊎_elim
-    (λ w. written_kept _ _ _ _ is more w.0.taken (sym w.1.ensures ∙ not-false _ w.2.left) ∙ l.loop.invariant)
-    (λ w. written_erased _ _ _ _ is more w.left ∙ l.loop.invariant)
+    (λ w. written_kept _ _ _ is more w.0.taken (sym w.1.ensures ∙ not-false _ w.2.left) ∙ l.loop.invariant)
+    (λ w. written_erased _ _ _ is more w.left ∙ l.loop.invariant)
     c.if1.branch
 
 returns-2 : tie.Need-returns-2 invariant-loop decreases-loop
-returns-2 c = sym (written_end _ _ _ c.loop-test.false) ∙ c.before.loop.invariant
+returns-2 c = sym (written_end _ _ c.loop-test.false) ∙ c.before.loop.invariant
 
 pub first-written-spec : {M : Type 1} → statement M
 first-written-spec =

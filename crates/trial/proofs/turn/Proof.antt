@@ -51,8 +51,8 @@ returns c =
     let s = c.before.before.before.before.before.before.before.before.before in
     let n = s.before.before.before.before.before in
     let a = n.before.before.before.before.before.before in (
-      turn_is _ _ _ _ a.args.scene _ _ _ n.piece-length.result s.step.result _ _ _ _ _ n.piece-length.ensures.0 s.step.ensures c.before.byte_at.ensures c.next.ensures,
-      turn_within _ _ _ _ a.args.scene _ _ _ n.piece-length.result s.step.result _ _ _ _ _ n.piece-length.ensures.0 s.step.ensures c.before.byte_at.ensures c.next.ensures a.requires n.piece-length.ensures.1,
+      turn_is _ _ _ a.args.scene _ _ _ n.piece-length.result s.step.result _ _ _ _ _ n.piece-length.ensures.0 s.step.ensures c.before.byte_at.ensures c.next.ensures,
+      turn_within _ _ _ a.args.scene _ _ _ n.piece-length.result s.step.result _ _ _ _ _ n.piece-length.ensures.0 s.step.ensures c.before.byte_at.ensures c.next.ensures a.requires n.piece-length.ensures.1,
     )
 
 pub turn_spec : {M : Type 1} → statement M
