@@ -17,4 +17,4 @@ returns-in-5 c = simp (c.granted-in-5.ensures, c.asks-in-5.ensures, c.in-5.is)
 
 pub returns-in_default : goal.returns-in_default
 unfolding inward_of
-returns-in_default c = simp (ne_eqb _ _ c.in_default.rest.0.0.1, ne_eqb _ _ c.in_default.rest.0.1, ne_eqb _ _ c.in_default.rest.1)
+returns-in_default c = simp (ne_eqb _ _ c.in_default.in_default-own.rest.0.0.1, ne_eqb _ _ c.in_default.in_default-own.rest.0.1, ne_eqb _ _ c.in_default.in_default-own.rest.1)

@@ -17,4 +17,4 @@ returns-in-6 c = simp (c.granted-in-6.ensures, c.asks-in-6.ensures, c.in-6.is)
 
 pub returns-in_default : goal.returns-in_default
 unfolding outward_of
-returns-in_default c = simp (ne_eqb _ _ c.in_default.rest.0.0.1, ne_eqb _ _ c.in_default.rest.0.1, ne_eqb _ _ c.in_default.rest.1)
+returns-in_default c = simp (ne_eqb _ _ c.in_default.in_default-own.rest.0.0.1, ne_eqb _ _ c.in_default.in_default-own.rest.0.1, ne_eqb _ _ c.in_default.in_default-own.rest.1)

@@ -17,4 +17,4 @@ returns-in-161 c = simp (c.inward.ensures, c.if-self-ne0.false, c.in-161.is)
 
 pub returns-in_default : goal.returns-in_default
 unfolding request_of
-returns-in_default c = simp (c.if-self-ne0.false, ne_eqb _ _ c.in_default.rest.0.1, ne_eqb _ _ c.in_default.rest.1)
+returns-in_default c = simp (c.if-self-ne0.false, ne_eqb _ _ c.in_default.in_default-own.rest.0.1, ne_eqb _ _ c.in_default.in_default-own.rest.1)
