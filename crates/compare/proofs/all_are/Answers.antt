@@ -1,7 +1,6 @@
 -- `compare::all_are` meets its contract. Assumes nothing.
 use native.Mathlib.Omega.{arith}
 use Rattle.compare.proofs.Alike.{are_turn, are_end}
-use Prim.Native.Nat.{◌-◌}
 use mathlib.Core.Path.{refl, sym, ◌∙◌}
 use Rattle.compare.proofs.all_are.Goals as goal
 

@@ -1,6 +1,5 @@
 -- `compare::first_change` meets its contract. Assumes nothing.
 use mathlib.Core.Path.{refl, ◌∙◌, sym}
-use Prim.Native.Nat.{◌-◌}
 use native.Mathlib.Omega.{arith}
 use Rattle.compare.proofs.Change.{first_turn, first_stop, first_end}
 use Rattle.compare.proofs.first_change.Goals as goal

@@ -1,6 +1,5 @@
 -- `compare::same_bytes` meets its contract. Assumes nothing.
 use Rattle.compare.proofs.Alike.{same_turn, same_end}
-use Prim.Native.Nat.{◌-◌}
 use mathlib.Core.Path.{refl, sym, ◌∙◌}
 use Rattle.compare.proofs.same_bytes.Goals as goal
 
