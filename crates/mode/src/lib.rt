@@ -41,6 +41,7 @@ impl Mode {
 
 // Is the request taken in this mode? The requests in document 01's order, each by the modes that take it or, where the
 // paper says "all", by those that do not. docs/REQUESTS.md has the answers as a table, printed by `request_table`.
+#[tactic(auto, unfolding(crate::specs::Table::allowed_of))]
 pub fn allowed(request: Request, mode: Mode) -> bool
     ensures { result ≡ allowed_of request mode }
 {
