@@ -1,6 +1,6 @@
 -- `bits::mark_bytes` meets its contract. Assumes nothing.
 use mathlib.Core.Path.{refl}
-use Prim.Native.Nat.{◌-◌, ◌<◌}
+use Prim.Native.Nat.{◌<◌}
 use native.Mathlib.Omega.{arith}
 use lib.ListN.{length-set, get_or}
 use Rattle.bits.proofs.Ways.{takes_none, bytes_turn, bytes_end}
