@@ -1,0 +1,12 @@
+-- `hexfield::digits` meets its contract. Assumes nothing.
+use Rattle.hexfield.specs.Hex.{all_digits}
+use lib.ListN.{drop}
+use Prim.Native.Nat.{◌-◌}
+use mathlib.Core.Path.{◌≡◌}
+use Rattle.hexfield.proofs.digits.Given as goal
+
+abbrev pub invariant-loop-i : goal.invariant-loop-i
+invariant-loop-i l = all_digits (drop l.i l.field) ≡ all_digits l.field
+
+abbrev pub decreases-loop-i : goal.decreases-loop-i
+decreases-loop-i l = l.last - l.i
