@@ -10,6 +10,7 @@ use mode::Mode;
 use request::Setup;
 
 // Is this a state that the loader can be in?
+#[tactic(auto, unfolding(crate::specs::WellFormed::well_formed))]
 pub fn well_formed(device: Device, board: Board) -> bool
     ensures { result ≡ well_formed board device }
 {
