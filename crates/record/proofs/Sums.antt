@@ -1,5 +1,5 @@
 -- A turn of the loop that adds up a record's bytes, and when a record is sound. Assumes nothing.
-use Rattle.std.proofs.Common.{◌≡◌, ℕ, ◌+◌, ◌*◌, ◌%◌, ◌<◌, ◌≤◌, true, false, ◌&&◌, eqb, List, length, get_or, drop, add-one, arith, drop_of_length-le, drop-cons, ne_eqb, eqb-true}
+use Rattle.std.proofs.Common.{◌≡◌, ℕ, ◌+◌, ◌*◌, ◌%◌, ◌<◌, ◌≤◌, true, false, eqb, List, length, get_or, drop, add-one, arith, drop_of_length-le, drop-cons, ne_eqb, eqb-true}
 use Rattle.laws.proofs.Split.{by_bool, and_true, and_right_false}
 use Rattle.record.specs.Record.{length_of, offset_of, type_of, suits, sum_of, sound}
 
