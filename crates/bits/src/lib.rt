@@ -6,6 +6,7 @@ ghost use Rattle.bits.specs.Bits.{Takes};
 ghost use Rattle.bits.specs.Ways.{stride_of, hit_of, marked_of};
 
 // A whole byte where eight bits from its first on are left, else one bit.
+#[tactic(auto, unfolding(crate::specs::Ways::stride_of))]
 fn stride(i: usize, to: usize) -> usize
     requires { i < to }
     ensures { (result ≡ stride_of i to) × (1 ≤ result) × (i + result ≤ to) }
