@@ -6,7 +6,7 @@ use Prim.Native.Nat.{ℕ, ◌+◌, ◌-◌, ◌*◌, ◌≤◌, ◌<◌}
 use native.Mathlib.Omega.{arith}
 use lib.Dec.{eqb}
 use lib.ListN.{length, take, drop, get_or, length-append, get_or-append}
-use lib.Seq.{length-take-le, take_at, drop_at}
+use lib.Seq.{take_at, drop_at}
 use borrow.Author.Tests.{eqb-false, eq-eqb, ne_eqb, le-leb}
 use Rattle.laws.proofs.Split.{by_bool, and_true}
 use Rattle.request.specs.Setup.{setup_of, data_length, fits_of}
