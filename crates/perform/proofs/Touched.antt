@@ -17,7 +17,7 @@ use Rattle.board.specs.Memory.{ram_parts, part_from, part_bytes, cleared_from, r
 use Rattle.board.specs.Sound.{Sound}
 use Rattle.board.proofs.Pages.{page_in_memory, page_holds_place, page_of_flash}
 use Rattle.protection.specs.Protection.{word_of, write_protected}
-use Rattle.flash.specs.Flash.{kept, blank, stored, erased, erased_from, erased_all}
+use Rattle.flash.specs.Flash.{kept, blank, erased, erased_from, erased_all}
 use Rattle.flash.proofs.Flash.{erased-length}
 use Rattle.flash.proofs.Places.{stored_outside, stored_spares}
 use Rattle.action.specs.declared.Action.{Action}
