@@ -1,0 +1,41 @@
+-- `acts::copy` meets its contract. Assumes nothing.
+use native.Mathlib.Omega.{arith}
+use Rattle.acts.proofs.Copying.{Given, copy_turn, copy_end}
+use Rattle.marks.specs.Work.{Work}
+use Rattle.marks.proofs.View.{values-room, block_room}
+use lib.ListN.{length-set}
+use mathlib.Core.Path.{refl, ap, ◌∙◌}
+use Rattle.acts.proofs.copy.Goals as goal
+
+pub values_from-values-requires : goal.values_from-values-requires
+values_from-values-requires c = tt
+
+pub block_from-block-requires : goal.block_from-block-requires
+block_from-block-requires c = tt
+
+pub loop-i-init : goal.loop-i-init
+loop-i-init c = (λ board g. refl, refl)
+
+pub overflow_add-work : goal.overflow_add-work
+overflow_add-work c = omega (arith, block_room c.args.board c.args.work.now c.requires.2)
+
+pub bounds-work-block : goal.bounds-work-block
+bounds-work-block c = omega (arith, block_room c.args.board c.args.work.now c.requires.2)
+
+pub overflow_add-work-in-loop-i-2 : goal.overflow_add-work-in-loop-i-2
+overflow_add-work-in-loop-i-2 c = omega (arith, values-room c.args.board c.args.work.now c.requires.2)
+
+pub bounds-work-values : goal.bounds-work-values
+bounds-work-values c = omega (arith, values-room c.args.board c.args.work.now c.requires.2)
+
+pub loop-i-preserved : goal.loop-i-preserved
+loop-i-preserved c =
+    (λ board g. copy_turn board _ _ _ _ _ _ _ _ g c.loop-i.invariant.1 c.loop-i-test.true (ap (λ (w : Work). w.block) (c.loop-i.invariant.0 board g)) refl ∙ c.loop-i.invariant.0 board g, simp length-set c.loop-i.invariant.1)
+
+pub shape_of-work : goal.shape_of-work
+shape_of-work c = c.loop-i.invariant.1
+
+pub returns : goal.returns
+returns c =
+    let g : Given c.args.board c.args.work.now c.args.at c.args.count c.values_from-values.result c.block_from-block.result = record { size = c.requires.2; room = c.requires.0; short = c.requires.1; values_there = c.values_from-values.ensures; block_there = c.block_from-block.ensures } in
+    copy_end _ _ _ _ _ _ _ _ g c.loop-i-test.false (c.loop-i.invariant.0 _ g)
