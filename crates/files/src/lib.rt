@@ -11,10 +11,46 @@ ghost use Rattle.append.specs.Said.{left, said_of};
 ghost use Rattle.files.specs.Came.{Came};
 ghost use Rattle.files.specs.Unreadable.{cause_of, unreadable_of};
 
-use libc::STDERR_FILENO;
+use std::env::FillError;
+use std::fs::File;
+use std::io::{Error, Read};
+use std::rt::{Env, Files};
+use std::{io, str};
 
 // Room for what is said of a file.
 const ROOM: usize = 512;
+
+// Room for a path. A longer one is not opened.
+pub const PATH: usize = 4096;
+
+// The system's numbers for why a file cannot be read: Linux has them on each processor.
+const NO_SUCH_FILE: i32 = 2;
+
+const NO_PERMISSION: i32 = 13;
+
+const IS_FOLDER: i32 = 21;
+
+// Where words are written: standard output and standard error.
+#[derive(Clone, Copy)]
+pub enum Stream {
+    Out,
+    Err,
+}
+
+// What a program asks of the system: files, its arguments, and two streams that take bytes.
+pub trait System: Files + Env {
+    // Writes all of the bytes, or as many as the stream takes.
+    fn put(&self, to: Stream, words: &[u8]) -> io::Result<()>;
+}
+
+impl System for HostRuntime {
+    fn put(&self, to: Stream, words: &[u8]) -> io::Result<()> {
+        match to {
+            Stream::Out => self.stdout().write_all(words),
+            Stream::Err => self.stderr().write_all(words),
+        }
+    }
+}
 
 // What keeps a file from being read.
 #[derive(Clone, Copy)]
@@ -37,18 +73,17 @@ pub struct Got {
     pub fault: Fault,
 }
 
-// The fault behind the system's last error.
-fn reason() -> Fault {
-    let error = os::errno();
-    match error {
-        libc::ENOENT => Fault::Missing,
-        libc::EACCES => Fault::Barred,
-        libc::EISDIR => Fault::Folder,
+// The fault behind the system's error.
+fn reason(error: Error) -> Fault {
+    match error.raw_os_error() {
+        Some(NO_SUCH_FILE) => Fault::Missing,
+        Some(NO_PERMISSION) => Fault::Barred,
+        Some(IS_FOLDER) => Fault::Folder,
         _ => Fault::Other,
     }
 }
 
-fn failed(is_opened: bool) -> Got
+fn failed(is_opened: bool, fault: Fault) -> Got
     ensures { (result.is_opened ≡ is_opened) × (result.is_read ≡ false) × (result.count ≡ 0) }
 {
     Got {
@@ -56,7 +91,7 @@ fn failed(is_opened: bool) -> Got
         is_opened,
         is_read: false,
         count: 0,
-        fault: reason(),
+        fault,
     }
 }
 
@@ -73,22 +108,21 @@ fn came(count: usize) -> Got
 }
 
 // One read.
-fn take(fd: i32, rest: &mut [u8]) -> Got
+fn take(file: &mut impl Read, rest: &mut [u8]) -> Got
     ensures { (result.count ≤ length rest.new) × (result.is_opened ≡ true) }
 {
-    let got = libc::read(fd, rest);
-    if got < 0 {
-        return failed(true);
+    match file.read(rest) {
+        Ok(count) => came(count),
+        Err(error) => failed(true, reason(error)),
     }
-    came(io::count(got, rest))
 }
 
 // One read into `buffer` from place `at` on.
-fn more(fd: i32, buffer: &mut [u8], at: usize) -> Got
+fn more(file: &mut impl Read, buffer: &mut [u8], at: usize) -> Got
     requires { at ≤ length buffer.old }
     ensures { (at + result.count ≤ length buffer.new) × (result.is_opened ≡ true) }
 {
-    take(fd, &mut buffer[at..])
+    take(file, &mut buffer[at..])
 }
 
 // How many bytes count, of those that came: none where a read failed.
@@ -99,12 +133,12 @@ fn counted(is_read: bool, count: usize) -> usize
 }
 
 // Reads until the buffer is full, the file ends or a read fails.
-fn fill(fd: i32, buffer: &mut [u8]) -> Got
+fn fill(file: &mut impl Read, buffer: &mut [u8]) -> Got
     ensures { (result.count ≤ length buffer.new) × (result.is_opened ≡ true) × (result.is_read ≡ false → result.count ≡ 0) }
 {
     let mut at = 0;
     while at < buffer.len() {
-        let got = more(fd, buffer, at);
+        let got = more(file, buffer, at);
         if got.count == 0 {
             return Got {
                 count: counted(got.is_read, at),
@@ -116,40 +150,82 @@ fn fill(fd: i32, buffer: &mut [u8]) -> Got
     came(at)
 }
 
-// Opens the file in the folder, whose name is the second text.
-fn open_found(file: &[u8], path: &mut [u8]) -> i32 {
-    let length = sentence::fill(b"[$|$]", &[1], file, path, 0);
-    os::open_read(&path[0..buffer::least(length, path.len())])
+// Opens the file at a path, or says why it cannot be opened. A path is text.
+fn open_path<R: Files>(rt: &R, path: &[u8]) -> Result<R::File, Fault> {
+    match str::from_utf8(path) {
+        Ok(path) => File::open(rt, path).map_err(reason),
+        Err(_) => Err(Fault::Other),
+    }
 }
 
-fn open(is_named: bool, argument: usize, file: &[u8], path: &mut [u8]) -> i32 {
+// Opens the file in the folder, whose name is the second text.
+fn open_found<R: Files>(rt: &R, file: &[u8], path: &mut [u8]) -> Result<R::File, Fault> {
+    let length = sentence::fill(b"[$|$]", &[1], file, path, 0);
+    open_path(rt, &path[0..buffer::least(length, path.len())])
+}
+
+fn open<R: System>(
+    rt: &R,
+    is_named: bool,
+    argument: usize,
+    file: &[u8],
+    path: &mut [u8],
+) -> Result<R::File, Fault> {
     if !is_named {
-        return open_found(file, path);
+        return open_found(rt, file, path);
     }
-    let length = os::arg(argument, path);
-    if os::errno() != 0 {
-        return -1;
+    match rt.arg(argument, path) {
+        Ok(length) => open_path(rt, &path[0..length]),
+        Err(_) => Err(Fault::Other),
     }
-    os::open_read(&path[0..length])
+}
+
+// Does the program have this argument? Argument 0 is its own name.
+fn is_given(rt: &impl Env, argument: usize) -> bool {
+    match rt.arg(argument, &mut [0u8; 0]) {
+        Ok(_) => true,
+        Err(FillError::TooLong) => true,
+        Err(FillError::NotPresent) => false,
+    }
+}
+
+// How many arguments the program has, its own name among them.
+pub fn arguments(rt: &impl Env) -> usize {
+    for i in 0..usize::MAX {
+        if !is_given(rt, i) {
+            return i;
+        }
+    }
+    usize::MAX
+}
+
+// The argument goes to the front of `out`; gives how long it is, or 0 where there is none or `out` has no room for it.
+pub fn argument(rt: &impl Env, argument: usize, out: &mut [u8]) -> usize
+    ensures { result ≤ length out.new }
+{
+    match rt.arg(argument, out) {
+        Ok(length) => length,
+        Err(_) => 0,
+    }
 }
 
 // Reads the file, no further than the buffer goes: one of a byte more than the longest that can be right shows a file
 // that is too long.
-pub fn read(argument: usize, file: &[u8], buffer: &mut [u8]) -> Got
+pub fn read(rt: &impl System, argument: usize, file: &[u8], buffer: &mut [u8]) -> Got
     ensures { Came result buffer.old buffer.new }
 {
-    let mut path = io::buffer();
-    let is_named = argument < os::arg_count();
-    let fd = open(is_named, argument, file, &mut path);
-    if fd < 0 {
-        return Got {
+    let mut path = [0u8; PATH];
+    let is_named = argument < arguments(rt);
+    match open(rt, is_named, argument, file, &mut path) {
+        Ok(mut opened) => {
+            let got = fill(&mut opened, buffer);
+            Got { is_named, ..got }
+        }
+        Err(fault) => Got {
             is_named,
-            ..failed(false)
-        };
+            ..failed(false, fault)
+        },
     }
-    let got = fill(fd, buffer);
-    libc::close(fd);
-    Got { is_named, ..got }
 }
 
 // Where the file was looked for: the argument, or 0 for the folder.
@@ -187,14 +263,14 @@ fn complaint(got: Got, argument: usize, file: &[u8], out: &mut [u8]) -> usize
 }
 
 // Says on standard error why a file could not be read, and what to do.
-pub fn unreadable(got: Got, argument: usize, file: &[u8]) {
+pub fn unreadable(rt: &impl System, got: Got, argument: usize, file: &[u8]) {
     let mut room = [0u8; ROOM];
     let count = complaint(got, argument, file, &mut room);
-    write(STDERR_FILENO, &room, count);
-    write(STDERR_FILENO, b"\n", 1);
+    write(rt, Stream::Err, &room, count);
+    write(rt, Stream::Err, b"\n", 1);
 }
 
 // Writes the first `count` bytes, or all where there are not so many.
-pub fn write(fd: i32, words: &[u8], count: usize) {
-    io::write_all(fd, &words[0..buffer::least(count, words.len())]);
+pub fn write(rt: &impl System, to: Stream, words: &[u8], count: usize) {
+    let _ = rt.put(to, &words[0..buffer::least(count, words.len())]);
 }

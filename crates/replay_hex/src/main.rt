@@ -5,6 +5,7 @@
 
 mod head;
 
+use feed::Feed;
 use head::Vector;
 
 // Room for the longest input and the longest buffer of a vector.
@@ -13,11 +14,12 @@ const INPUT_ROOM: usize = 46100;
 const OUT_ROOM: usize = 46200;
 
 // What the reader answered, the line at fault, and what it left in the whole buffer.
-fn read(text: &[u8], out: &mut [u8]) {
+fn read(rt: &impl Print, text: &[u8], out: &mut [u8]) {
     let done = ihex::read(text, out);
     let told = numbers::told(done);
     let faulty = ihex::faulty_line(text);
     feed::print(
+        rt,
         b"R # # # # #\n",
         &[
             told.number,
@@ -30,26 +32,27 @@ fn read(text: &[u8], out: &mut [u8]) {
 }
 
 // What the writer answered, and what it left in the whole buffer.
-fn write(image: &[u8], out: &mut [u8]) {
+fn write(rt: &impl Print, image: &[u8], out: &mut [u8]) {
     let done = ihex::write(image, out);
     let told = numbers::told(done);
     feed::print(
+        rt,
         b"W # # # #\n",
         &[told.number, told.line, told.count, vectors::digest(out)],
     );
 }
 
 // The call that a vector is about.
-fn perform(kind: u8, input: &[u8], out: &mut [u8]) {
+fn perform(rt: &impl Print, kind: u8, input: &[u8], out: &mut [u8]) {
     if kind == head::WRITE {
-        write(input, out);
+        write(rt, input, out);
         return;
     }
-    read(input, out);
+    read(rt, input, out);
 }
 
 // Lends both buffers in the length that the vector asks for. What finds no room has no line.
-fn lend(vector: Vector, input: &[u8], out: &mut [u8]) {
+fn lend(rt: &impl Print, vector: Vector, input: &[u8], out: &mut [u8]) {
     let size = vector.size;
     let room = vector.room;
     if input.len() < size {
@@ -58,33 +61,39 @@ fn lend(vector: Vector, input: &[u8], out: &mut [u8]) {
     if out.len() < room {
         return;
     }
-    perform(vector.kind, &input[0..size], &mut out[0..room]);
+    perform(rt, vector.kind, &input[0..size], &mut out[0..room]);
 }
 
 // Makes the input and the buffer of a vector, and lets it happen. Without a body the input stays as it is.
-fn turn(fd: i32, vector: Vector, input: &mut [u8], out: &mut [u8]) {
-    feed::load(fd, input, 0, vector.body);
+fn turn(rt: &impl Print, file: &mut Feed, vector: Vector, input: &mut [u8], out: &mut [u8]) {
+    feed::load(file, input, 0, vector.body);
     vectors::repeat(input, 0, vector.body, 0, vector.size);
     vectors::ramp(input, vector.place, 1, vector.byte, 0);
     vectors::ramp(out, 0, vector.room, vector.seed, 7);
-    lend(vector, input, out);
+    lend(rt, vector, input, out);
 }
 
 // How many vectors there were.
-fn replay(fd: i32, head: &mut [u8], input: &mut [u8], out: &mut [u8]) -> usize {
+fn replay(
+    rt: &impl Print,
+    file: &mut Feed,
+    head: &mut [u8],
+    input: &mut [u8],
+    out: &mut [u8],
+) -> usize {
     let mut count = 0;
-    while count < feed::MOST && feed::next(fd, head) {
-        turn(fd, head::parse(head), input, out);
+    while count < feed::MOST && feed::next(file, head) {
+        turn(rt, file, head::parse(head), input, out);
         count += 1;
     }
     count
 }
 
-fn main() {
+fn main(rt: HostRuntime) {
     let mut head = [0u8; head::SIZE];
     let mut input = [0u8; INPUT_ROOM];
     let mut out = [0u8; OUT_ROOM];
-    let fd = feed::open();
-    let count = replay(fd, &mut head, &mut input, &mut out);
-    feed::finish(fd, b"vectors #\n", count);
+    let mut file = feed::open(&rt);
+    let count = replay(&rt, &mut file, &mut head, &mut input, &mut out);
+    feed::finish(&rt, file, b"vectors #\n", count);
 }
