@@ -1,5 +1,5 @@
 -- A request that a loader in order takes. Document 01, "Events", "GETSTATUS", "UPLOAD". Assumes nothing.
-use Rattle.std.specs.Prelude.{cond, List, [], ◌∷◌, ℕ, eqb, length, take, drop}
+use Rattle.std.specs.Prelude.{cond, List, [], ◌∷◌, ℕ, eqb, take, drop}
 use Rattle.laws.specs.Bytes.{put}
 use Rattle.board.specs.declared.Board.{Board}
 use Rattle.protection.specs.Protection.{read_protected}
