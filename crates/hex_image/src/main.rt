@@ -3,44 +3,49 @@
 #![tactic(auto)]
 
 use board::Board;
-use libc::{STDERR_FILENO, STDOUT_FILENO};
+use files::{Stream, System};
 use refusal::Refusal;
 use verdict::Verdict;
 
 // The arguments of a call that names the file: the program's own name is the first.
 const NAMED: usize = 2;
 
-fn tell(words: &[u8]) {
-    files::write(STDERR_FILENO, words, words.len());
+fn tell(rt: &impl System, words: &[u8]) {
+    files::write(rt, Stream::Err, words, words.len());
 }
 
 // The image is bytes, which a shell cannot hold: whoever runs this program cannot see for us whether they arrived.
-fn put(image: &[u8]) {
-    if !io::write_all(STDOUT_FILENO, image) {
+fn put(rt: &impl System, image: &[u8]) {
+    if rt.put(Stream::Out, image).is_err() {
         tell(
+            rt,
             b"The image could not be written to standard output. Make room for it, then try again.\n",
         );
     }
 }
 
-fn make() {
+fn make(rt: &impl System) {
     let mut image = [0u8; Board::LOGGER_FLASH];
     let got = images::hex(
-        STDERR_FILENO,
+        rt,
+        Stream::Err,
         telling::WORDS,
         1,
         b"HEX text|image.hex|the HEX text",
         &mut image,
     );
     let count = got.count;
-    put(&image[0..count]);
+    put(rt, &image[0..count]);
 }
 
-fn main() {
-    if os::arg_count() <= NAMED {
-        make();
+fn main(rt: HostRuntime) {
+    if files::arguments(&rt) <= NAMED {
+        make(&rt);
         return;
     }
-    telling::line(STDERR_FILENO, Verdict::Refused(Refusal::File));
-    tell(b"Name one file, the HEX text, or none to take image.hex in this folder.\n");
+    telling::line(&rt, Stream::Err, Verdict::Refused(Refusal::File));
+    tell(
+        &rt,
+        b"Name one file, the HEX text, or none to take image.hex in this folder.\n",
+    );
 }

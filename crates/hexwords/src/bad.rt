@@ -2,6 +2,7 @@
 ghost use Rattle.std.specs.Prelude.{◌+◌, ◌≤◌, length};
 
 use crate::{fields, lines, say};
+use files::System;
 
 // The place of the first character behind the colon that is no digit, or the record's end.
 fn first_strange(record: &[u8]) -> usize
@@ -104,9 +105,10 @@ fn reason(is_ended: bool, record: &[u8]) -> usize {
     }
 }
 
-fn describe(number: usize, reason: usize, record: &[u8]) {
+fn describe(rt: &impl System, number: usize, reason: usize, record: &[u8]) {
     let kind = fields::kind(record);
     say::fill(
+        rt,
         b"Line # of the HEX text [does not end: the text stops there. Get the file again if it was cut, else end the line with LF or CR LF|is empty. Take it out|does not begin with a colon, as every record does. Give a file in Intel HEX, or take out what is no record|has a character that is no hexadecimal digit, number # in the line. Get the file again, or write it anew|has # of the 11 characters that the shortest record has. Get the file again, or write it anew|has # characters and not #, as its length field % asks for. Get the file again, or write it anew|is a record of type %, and only 00, 01, 04 and 05 are read. Write the HEX with linear addresses of 32 bits|is a record of type %, with length field % and offset %%: these have to be % and 0000. Write the HEX anew|has the sum %, and its other bytes ask for %: it was changed or damaged. Get the file again, or write it anew|has a CR without the LF that would end the line, number # in it. Write the file with LF or CR LF at the end of each line].\n",
         &[
             number,
@@ -130,9 +132,14 @@ fn describe(number: usize, reason: usize, record: &[u8]) {
 }
 
 // Says what is wrong with a line.
-pub(crate) fn tell(text: &[u8], number: usize) {
+pub(crate) fn tell(rt: &impl System, text: &[u8], number: usize) {
     let rest = &text[lines::from(text, number)..];
     let line = &rest[0..lines::length(rest)];
     let record = &line[0..lines::stem(line)];
-    describe(number, reason(record.len() < line.len(), record), record);
+    describe(
+        rt,
+        number,
+        reason(record.len() < line.len(), record),
+        record,
+    );
 }

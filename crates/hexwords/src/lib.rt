@@ -14,6 +14,7 @@ ghost use Rattle.std.specs.Prelude.{◌≤◌};
 
 use crate::given::Span;
 use board::Board;
+use files::System;
 use refusal::Refusal;
 
 // The most bytes of a text that the programs read. An image of all of the logger's flash has 245,811 with one byte in a
@@ -39,9 +40,10 @@ fn first_outside(flash: Span, from: usize) -> usize {
     if from < flash.to { flash.to } else { from }
 }
 
-fn outside(text: &[u8], line: usize) {
+fn outside(rt: &impl System, text: &[u8], line: usize) {
     let flash = flash();
     say::fill(
+        rt,
         b"Line # of the HEX text gives a byte at @, and flash is @ to @. Link the program for flash, then write its HEX anew.\n",
         &[
             line,
@@ -52,9 +54,10 @@ fn outside(text: &[u8], line: usize) {
     );
 }
 
-fn twice(text: &[u8], line: usize) {
+fn twice(rt: &impl System, text: &[u8], line: usize) {
     let first = given::before(text, line);
     say::fill(
+        rt,
         b"Line # of the HEX text gives the byte at @ again, which line # has given. Take out what is there twice: two files that were joined, or sections that overlap in the linker's script.\n",
         &[line, first.address, first.line],
     );
@@ -73,32 +76,35 @@ fn ending(text: &[u8], line: usize) -> usize {
     }
 }
 
-fn unended(text: &[u8], line: usize) {
+fn unended(rt: &impl System, text: &[u8], line: usize) {
     say::fill(
+        rt,
         b"[The HEX text is empty. Give the HEX of the linked program.|The HEX text stops before line #, without an end record, which is :00000001FF. Get the file again, for it may have been cut, or write it anew.|Line # of the HEX text stands behind the end record. Take out what follows that record; where two files were joined, give one of them.]\n",
         &[ending(text, line), line, line],
     );
 }
 
-fn empty(line: usize) {
+fn empty(rt: &impl System, line: usize) {
     say::fill(
+        rt,
         b"The HEX text ends in line # and gives no data. Give the HEX of the linked program.\n",
         &[line],
     );
 }
 
 // Says on standard error why a HEX text is refused so, and what to do.
-pub fn explain(why: Refusal, text: &[u8]) {
+pub fn explain(rt: &impl System, why: Refusal, text: &[u8]) {
     match why {
-        Refusal::Record(line) => bad::tell(text, line),
-        Refusal::Outside => outside(text, ihex::faulty_line(text)),
-        Refusal::Twice => twice(text, ihex::faulty_line(text)),
-        Refusal::Unended => unended(text, ihex::faulty_line(text)),
-        Refusal::Empty => empty(ihex::faulty_line(text)),
+        Refusal::Record(line) => bad::tell(rt, text, line),
+        Refusal::Outside => outside(rt, text, ihex::faulty_line(text)),
+        Refusal::Twice => twice(rt, text, ihex::faulty_line(text)),
+        Refusal::Unended => unended(rt, text, ihex::faulty_line(text)),
+        Refusal::Empty => empty(rt, ihex::faulty_line(text)),
         Refusal::File => say::fill(
+            rt,
             b"The HEX text has more than # bytes, which no image needs. Give the HEX of one program.\n",
             &[MOST],
         ),
-        _ => say::fill(b"The image has no room here.\n", &[0]),
+        _ => say::fill(rt, b"The image has no room here.\n", &[0]),
     }
 }

@@ -3,7 +3,7 @@
 #![tactic(auto)]
 
 use board::Board;
-use libc::{STDERR_FILENO, STDOUT_FILENO};
+use files::{Stream, System};
 use refusal::{Done, Refusal};
 use verdict::Verdict;
 
@@ -17,20 +17,21 @@ const ROOM: usize = 512;
 const NAMED: usize = 2;
 
 // The line that names a refusal, and a sentence for people with its numbers.
-fn refuse(why: Refusal, template: &[u8], numbers: &[usize]) {
-    telling::line(STDERR_FILENO, Verdict::Refused(why));
+fn refuse(rt: &impl System, why: Refusal, template: &[u8], numbers: &[usize]) {
+    telling::line(rt, Stream::Err, Verdict::Refused(why));
     let mut room = [0u8; ROOM];
     let count = sentence::fill(template, numbers, b"", &mut room, 0);
-    files::write(STDERR_FILENO, &room, count);
+    files::write(rt, Stream::Err, &room, count);
 }
 
 // Writes the text of an image.
-fn perform(image: &[u8]) {
+fn perform(rt: &impl System, image: &[u8]) {
     let mut text = [0u8; ihex::LONGEST];
     let done = ihex::write(image, &mut text);
     match done {
-        Done::Bytes(size) => files::write(STDOUT_FILENO, &text, size),
+        Done::Bytes(size) => files::write(rt, Stream::Out, &text, size),
         Done::Refused(why) => refuse(
+            rt,
             why,
             b"The image [is empty|has more bytes than the flash]. Give an image of 1 to # bytes.\n",
             &[image.len(), Board::LOGGER_FLASH],
@@ -39,10 +40,11 @@ fn perform(image: &[u8]) {
 }
 
 // Reads the image.
-fn make() {
+fn make(rt: &impl System) {
     let mut image = [0u8; IMAGE_ROOM];
     let got = telling::load(
-        STDERR_FILENO,
+        rt,
+        Stream::Err,
         telling::WORDS,
         1,
         b"image|image.bin|the image",
@@ -50,16 +52,17 @@ fn make() {
     );
     if got.is_read {
         let count = got.count;
-        perform(&image[0..count]);
+        perform(rt, &image[0..count]);
     }
 }
 
-fn main() {
-    if os::arg_count() <= NAMED {
-        make();
+fn main(rt: HostRuntime) {
+    if files::arguments(&rt) <= NAMED {
+        make(&rt);
         return;
     }
     refuse(
+        &rt,
         Refusal::File,
         b"Name one file, the image, or none to take image.bin in this folder.\n",
         &[0],

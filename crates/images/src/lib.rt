@@ -7,7 +7,7 @@
 ghost use Rattle.std.specs.Prelude.{◌≡◌, true, false, ◌≤◌, length};
 ghost use Rattle.files.specs.Came.{Came};
 
-use files::{Fault, Got};
+use files::{Fault, Got, Stream, System};
 use refusal::{Done, Refusal};
 use verdict::Verdict;
 
@@ -15,9 +15,9 @@ use verdict::Verdict;
 const TEXT_ROOM: usize = hexwords::MOST + 1;
 
 // Is there no such file in the folder? No byte of it is read.
-fn lacks(argument: usize, file: &[u8]) -> bool {
+fn lacks(rt: &impl System, argument: usize, file: &[u8]) -> bool {
     let mut none = [0u8; 0];
-    let fault = files::read(argument, file, &mut none).fault;
+    let fault = files::read(rt, argument, file, &mut none).fault;
     match fault {
         Fault::Missing => true,
         _ => false,
@@ -25,21 +25,21 @@ fn lacks(argument: usize, file: &[u8]) -> bool {
 }
 
 // Does the argument name a file in Intel HEX? None does where there is no argument, or one that is too long for a path.
-fn is_named_hex(argument: usize) -> bool {
-    let mut path = io::buffer();
-    let length = os::arg(argument, &mut path);
+fn is_named_hex(rt: &impl System, argument: usize) -> bool {
+    let mut path = [0u8; files::PATH];
+    let length = files::argument(rt, argument, &mut path);
     hexname::is_hex(&path[0..length])
 }
 
 // Without an argument for the image: does the folder have image.hex and no image.bin?
-fn is_found_hex(argument: usize) -> bool {
-    if argument < os::arg_count() {
+fn is_found_hex(rt: &impl System, argument: usize) -> bool {
+    if argument < files::arguments(rt) {
         return false;
     }
-    if lacks(argument, b"image|image.hex|all files") {
+    if lacks(rt, argument, b"image|image.hex|all files") {
         return false;
     }
-    lacks(argument, b"image|image.bin")
+    lacks(rt, argument, b"image|image.bin")
 }
 
 // A text that was read and gives no image.
@@ -55,13 +55,13 @@ fn refused() -> Got
     }
 }
 
-// Refuses the text: the line goes to `fd`, a sentence to standard error.
-fn refuse(fd: i32, much: usize, why: Refusal, text: &[u8]) {
+// Refuses the text: the line goes to `to`, a sentence to standard error.
+fn refuse(rt: &impl System, to: Stream, much: usize, why: Refusal, text: &[u8]) {
     if telling::LINE <= much {
-        telling::line(fd, Verdict::Refused(why));
+        telling::line(rt, to, Verdict::Refused(why));
     }
     if telling::WORDS <= much {
-        hexwords::explain(why, text);
+        hexwords::explain(rt, why, text);
     }
 }
 
@@ -74,7 +74,7 @@ fn read(text: &[u8], image: &mut [u8]) -> Done {
 }
 
 // Likewise, and a refusal is said.
-fn lay(fd: i32, much: usize, text: &[u8], image: &mut [u8]) -> Got
+fn lay(rt: &impl System, to: Stream, much: usize, text: &[u8], image: &mut [u8]) -> Got
     ensures { (result.count ≤ length image.new) × (result.is_opened ≡ true) × (result.is_read ≡ false → result.count ≡ 0) }
 {
     let done = read(text, image);
@@ -87,7 +87,7 @@ fn lay(fd: i32, much: usize, text: &[u8], image: &mut [u8]) -> Got
             fault: Fault::None,
         },
         Done::Refused(why) => {
-            refuse(fd, much, why, text);
+            refuse(rt, to, much, why, text);
             refused()
         }
     }
@@ -95,27 +95,41 @@ fn lay(fd: i32, much: usize, text: &[u8], image: &mut [u8]) -> Got
 
 // Reads an image in Intel HEX, whatever the file's name says, or refuses and says as much as is asked for. `load` calls
 // it from two places, so the compiler keeps it apart, and the stack of a caller grows by the text only in here.
-pub fn hex(fd: i32, much: usize, argument: usize, file: &[u8], image: &mut [u8]) -> Got
+pub fn hex(
+    rt: &impl System,
+    to: Stream,
+    much: usize,
+    argument: usize,
+    file: &[u8],
+    image: &mut [u8],
+) -> Got
     ensures { Came result image.old image.new }
 {
     let mut text = [0u8; TEXT_ROOM];
-    let got = telling::load(fd, much, argument, file, &mut text);
+    let got = telling::load(rt, to, much, argument, file, &mut text);
     if !got.is_read {
         return got;
     }
     let count = got.count;
-    lay(fd, much, &text[0..count], image)
+    lay(rt, to, much, &text[0..count], image)
 }
 
 // Reads an image, or refuses and says as much as is asked for.
-pub fn load(fd: i32, much: usize, argument: usize, file: &[u8], image: &mut [u8]) -> Got
+pub fn load(
+    rt: &impl System,
+    to: Stream,
+    much: usize,
+    argument: usize,
+    file: &[u8],
+    image: &mut [u8],
+) -> Got
     ensures { Came result image.old image.new }
 {
-    if is_named_hex(argument) {
-        return hex(fd, much, argument, file, image);
+    if is_named_hex(rt, argument) {
+        return hex(rt, to, much, argument, file, image);
     }
-    if is_found_hex(argument) {
-        return hex(fd, much, argument, b"image|image.hex|all files", image);
+    if is_found_hex(rt, argument) {
+        return hex(rt, to, much, argument, b"image|image.hex|all files", image);
     }
-    telling::load(fd, much, argument, file, image)
+    telling::load(rt, to, much, argument, file, image)
 }

@@ -1,7 +1,7 @@
 // Prints which request is taken in which mode, as `mode::allowed` answers: the table of docs/REQUESTS.md.
 #![tactic(auto)]
 
-use libc::STDOUT_FILENO;
+use files::{Stream, System};
 use mode::Mode;
 use request::Request;
 
@@ -53,7 +53,7 @@ fn cell(line: Line, request: Request, out: &mut [u8], at: usize) -> usize {
 }
 
 // A line, with a column for each request in document 01's order.
-fn print(line: Line) {
+fn print(rt: &impl System, line: Line) {
     let mut room = [0u8; ROOM];
     let mut at = append::say(b"| ", &mut room, 0);
     at = title(line, &mut room, at);
@@ -65,20 +65,20 @@ fn print(line: Line) {
     at = cell(line, Request::Abort, &mut room, at);
     at = cell(line, Request::Unknown, &mut room, at);
     at = append::say(b" |\n", &mut room, at);
-    files::write(STDOUT_FILENO, &room, at);
+    files::write(rt, Stream::Out, &room, at);
 }
 
-fn main() {
-    print(Line::Names);
+fn main(rt: HostRuntime) {
+    print(&rt, Line::Names);
     let rule = b"|---|---|---|---|---|---|---|---|\n";
-    files::write(STDOUT_FILENO, rule, rule.len());
-    print(Line::Answers(Mode::Idle));
-    print(Line::Answers(Mode::DownloadSync));
-    print(Line::Answers(Mode::DownloadBusy));
-    print(Line::Answers(Mode::DownloadIdle));
-    print(Line::Answers(Mode::ManifestSync));
-    print(Line::Answers(Mode::UploadIdle));
-    print(Line::Answers(Mode::Error));
-    print(Line::Answers(Mode::Left));
-    print(Line::Answers(Mode::Rebooting));
+    files::write(&rt, Stream::Out, rule, rule.len());
+    print(&rt, Line::Answers(Mode::Idle));
+    print(&rt, Line::Answers(Mode::DownloadSync));
+    print(&rt, Line::Answers(Mode::DownloadBusy));
+    print(&rt, Line::Answers(Mode::DownloadIdle));
+    print(&rt, Line::Answers(Mode::ManifestSync));
+    print(&rt, Line::Answers(Mode::UploadIdle));
+    print(&rt, Line::Answers(Mode::Error));
+    print(&rt, Line::Answers(Mode::Left));
+    print(&rt, Line::Answers(Mode::Rebooting));
 }

@@ -7,7 +7,7 @@ ghost use Rattle.refusal.specs.Delivery.{delivery};
 ghost use Rattle.files.specs.Came.{Came};
 ghost use Rattle.telling.specs.Gathered.{told_at_once, gathered_of};
 
-use files::Got;
+use files::{Got, Stream, System};
 use refusal::{Done, Refusal};
 use verdict::Verdict;
 
@@ -22,32 +22,39 @@ pub const WORDS: usize = 2;
 const LINE_ROOM: usize = 64;
 
 // Prints the verdict's line.
-pub fn line(fd: i32, verdict: Verdict) {
+pub fn line(rt: &impl System, to: Stream, verdict: Verdict) {
     let mut line = [0u8; LINE_ROOM];
     let done = verdict::report(verdict, &mut line);
     match done {
-        Done::Bytes(count) => files::write(fd, &line, count),
+        Done::Bytes(count) => files::write(rt, to, &line, count),
         Done::Refused(_) => {}
     }
 }
 
-// Refuses for a file: the line goes to `fd`, a sentence to standard error.
-fn refuse(fd: i32, much: usize, got: Got, argument: usize, file: &[u8]) {
+// Refuses for a file: the line goes to `to`, a sentence to standard error.
+fn refuse(rt: &impl System, to: Stream, much: usize, got: Got, argument: usize, file: &[u8]) {
     if LINE <= much {
-        line(fd, Verdict::Refused(Refusal::File));
+        line(rt, to, Verdict::Refused(Refusal::File));
     }
     if WORDS <= much {
-        files::unreadable(got, argument, file);
+        files::unreadable(rt, got, argument, file);
     }
 }
 
 // Reads a file, or refuses for it and says as much as is asked for.
-pub fn load(fd: i32, much: usize, argument: usize, file: &[u8], buffer: &mut [u8]) -> Got
+pub fn load(
+    rt: &impl System,
+    to: Stream,
+    much: usize,
+    argument: usize,
+    file: &[u8],
+    buffer: &mut [u8],
+) -> Got
     ensures { Came result buffer.old buffer.new }
 {
-    let got = files::read(argument, file, buffer);
+    let got = files::read(rt, argument, file, buffer);
     if !got.is_read {
-        refuse(fd, much, got, argument, file);
+        refuse(rt, to, much, got, argument, file);
     }
     got
 }
