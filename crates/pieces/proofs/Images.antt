@@ -1,10 +1,10 @@
 -- The image of some pieces, and that a buffer which holds them has it in front. Assumes nothing.
 use mathlib.Core.Path.{◌≡◌, refl, ap, ◌∙◌, sym}
-use mathlib.Core.List.{List, [], ◌∷◌}
+use mathlib.Core.List.{List, []}
 use Prim.Native.Nat.{ℕ, zero, suc, ◌+◌, ◌-◌, ◌*◌, ◌≤◌, ◌<◌}
 use native.Mathlib.Omega.{arith}
-use native.Mathlib.Nat.{add-zero, add-suc, suc-add}
-use lib.ListN.{length, take, drop, get_or, replicate, length-replicate, get_or-replicate}
+use native.Mathlib.Nat.{add-zero}
+use lib.ListN.{length, take, get_or, replicate, length-replicate, get_or-replicate}
 use lib.Seq.{ext_get_or, length-take-le, get_or-take}
 use Rattle.bits.specs.Bits.{bit_at}
 use Rattle.bits.proofs.Bits.{none-set}

@@ -1,17 +1,17 @@
 -- Laying a piece: what the code does, its refusals, and that all holds with it. Assumes nothing.
 use mathlib.Core.Path.{◌≡◌, refl, ap, ap₂, ◌∙◌, sym}
-use mathlib.Core.Bool.{Bool, true, false, not, cond, ◌&&◌, ◌||◌}
+use mathlib.Core.Bool.{Bool, true, false, not, ◌&&◌, ◌||◌}
 use mathlib.Core.List.{List, [], ◌∷◌, append-nil}
 use Prim.Native.Nat.{ℕ, zero, suc, ◌+◌, ◌-◌, ◌*◌, ◌≤◌, ◌<◌}
 use native.Mathlib.Omega.{arith}
-use native.Mathlib.Nat.{add-zero, add-suc, suc-add}
-use lib.Dec.{eqb, leb, ltb}
+use native.Mathlib.Nat.{add-zero, add-suc}
+use lib.Dec.{eqb}
 use lib.ListN.{length, take, get_or, take-append-drop}
-use borrow.Author.Tests.{eq-eqb, ne_eqb, lt-ltb, le-ltb, le-leb, lt-leb, not-true, not-false}
+use borrow.Author.Tests.{eq-eqb, ne_eqb, lt-ltb, le-ltb}
 use Rattle.laws.specs.Bytes.{put}
 use Rattle.laws.proofs.Bytes.{put-length}
 use Rattle.laws.proofs.Places.{put-before, put_in, put-after}
-use Rattle.laws.proofs.Split.{by_bool, by_eq, by_lt, and_right_false}
+use Rattle.laws.proofs.Split.{by_bool, by_eq, by_lt}
 use Rattle.bits.specs.Bits.{bit_at, any_from, some_set, within, Marked}
 use Rattle.bits.proofs.Bits.{some_set_by, within_in, within-before, within_behind, unmarked, marked_none}
 use Rattle.refusal.specs.declared.Refusal.TheVariants.{Outside, Twice}
@@ -25,8 +25,8 @@ use Rattle.board.specs.Layout.{flash_first, flash_bytes}
 use Rattle.board.specs.Span.{in_flash}
 use Rattle.board.proofs.Addresses.{flash_ends}
 use Rattle.pieces.specs.Image.{Piece, gives, given, byte_at, larger, reach}
-use Rattle.pieces.specs.Refusals.{with_piece, piece_refusals, none}
-use Rattle.pieces.specs.Ways.{placing_of, laid_of, marked_bytes, Placing, Holds, Placed, Places}
+use Rattle.pieces.specs.Refusals.{with_piece, piece_refusals}
+use Rattle.pieces.specs.Ways.{placing_of, marked_bytes, Placing, Holds, Places}
 
 -- what each test comes to
 module _ (board : Board) (a : ℕ) (xs : List ℕ) (ps : List Piece) where
