@@ -1,12 +1,11 @@
 -- The line for people is that of the refusal: 0 where none applies, some line where one does, and the line that 20 names. Assumes nothing.
 use mathlib.Core.Path.{◌≡◌, refl, ap, ◌∙◌, sym}
-use mathlib.Core.Bool.{Bool, true, false, not, ◌&&◌}
+use mathlib.Core.Bool.{true, false, not, ◌&&◌}
 use mathlib.Core.List.{List, [], ◌∷◌}
 use Prim.Native.Nat.{ℕ, suc, ◌≤◌}
 use native.Mathlib.Omega.{arith}
 use lib.Dec.{eqb}
 use lib.ListN.{length}
-use borrow.Author.Tests.{eq-eqb}
 use Rattle.laws.proofs.Split.{by_bool}
 use Rattle.bits.specs.Bits.{any_from}
 use Rattle.refusal.specs.declared.Refusal.{Refusal}

@@ -1,7 +1,7 @@
 -- Laying a record: data are a piece, and nothing else is. Assumes nothing.
-use mathlib.Core.Path.{◌≡◌, refl, ap, ◌∙◌, sym}
-use mathlib.Core.List.{List, []}
-use Prim.Native.Nat.{ℕ, ◌+◌, ◌-◌, ◌*◌, ◌≤◌, ◌<◌}
+use mathlib.Core.Path.{◌≡◌, ap}
+use mathlib.Core.List.{List}
+use Prim.Native.Nat.{ℕ, ◌+◌, ◌-◌, ◌*◌}
 use native.Mathlib.Omega.{arith}
 use lib.ListN.{length, take, drop, get_or}
 use borrow.Author.Tests.{eq-eqb, ne_eqb}
@@ -12,7 +12,6 @@ use Rattle.refusal.specs.Order.{first_of}
 use Rattle.refusal.proofs.First.{first-none}
 use Rattle.record.specs.Record.{length_of, offset_of, type_of, data_of}
 use Rattle.pieces.specs.Image.{Piece}
-use Rattle.pieces.specs.Refusals.{with_piece, piece_refusals}
 use Rattle.pieces.specs.Ways.{Placed}
 use Rattle.ihex.specs.Reading.{data_address, upper_after, given_after, record_refusals}
 use Rattle.ihex.specs.Ways.{RecordPlaced}

@@ -1,16 +1,15 @@
 -- The text of an image, read again: no refusal applies, and its image is that image. Assumes nothing.
 use mathlib.Core.Path.{◌≡◌, refl, ap, ap₂, ◌∙◌, sym}
-use mathlib.Core.Bool.{Bool, true, false, cond}
+use mathlib.Core.Bool.{true, false}
 use mathlib.Core.List.{List, [], ◌∷◌, ◌++◌, append_assoc, append-nil}
 use Prim.Native.Nat.{ℕ, zero, suc, ◌+◌, ◌-◌, ◌*◌, ◌/◌, ◌%◌, ◌≤◌, ◌<◌}
 use native.Mathlib.Omega.{arith}
-use lib.Dec.{eqb, ltb}
-use lib.ListN.{length, take, drop, get_or, length-drop, length-append, take-append-drop, drop_of_length-le}
+use lib.Dec.{eqb}
+use lib.ListN.{length, take, drop, get_or, length-drop}
 use lib.Seq.{get_or-take, get_or-drop, ext_get_or, take_all, length-take-le}
 use borrow.Author.Tests.{eq-eqb, ne_eqb, lt-ltb, le-ltb}
 use Rattle.laws.specs.Lists.{all_bytes}
 use Rattle.laws.proofs.Lists.{bytes_take, bytes_drop}
-use Rattle.laws.proofs.Bytes.{take_at_most}
 use Rattle.laws.proofs.Split.{by_lt}
 use Rattle.laws.specs.Lines.{lines_of}
 use Rattle.buffer.specs.Least.{least_of}
@@ -24,13 +23,13 @@ use Rattle.board.specs.Layout.{flash_first, flash_bytes}
 use Rattle.board.specs.Span.{in_flash}
 use Rattle.board.specs.Sound.{Sound}
 use Rattle.board.proofs.Addresses.{flash_spans}
-use Rattle.record.specs.Record.{type_of, length_of, offset_of, data_of, suits, good_record, record_in, summed, record_of, record_line, offset_count}
+use Rattle.record.specs.Record.{type_of, offset_of, data_of, suits, good_record, record_in, summed, record_of, record_line, offset_count}
 use Rattle.record.proofs.Written.{written_record, written_formed, written_lines, made_type, made_offset, made_data, made_whole, made_sound, made_bytes}
-use Rattle.pieces.specs.Image.{Piece, gives, given, byte_at, larger, reach, bytes_from, image_of}
-use Rattle.pieces.specs.Refusals.{with_piece, piece_refusals, none}
+use Rattle.pieces.specs.Image.{Piece, gives, given, byte_at, reach, bytes_from, image_of}
+use Rattle.pieces.specs.Refusals.{none}
 use Rattle.pieces.proofs.Placing.{fresh, with_piece_lem}
 use Rattle.pieces.proofs.Images.{from_length, from_at}
-use Rattle.ihex.specs.Reading.{data_address, upper_after, given_after, ends, record_refusals, end_refusals, refusals_from, pieces_from, hex_read_refusals, pieces_in}
+use Rattle.ihex.specs.Reading.{data_address, upper_after, given_after, ends, record_refusals, refusals_from, pieces_from, hex_read_refusals, pieces_in}
 use Rattle.ihex.specs.Writing.{upper_half, upper_line, end_line, hex_text}
 use Rattle.ihex.specs.Ways.{OneSegment, data_text}
 use Rattle.ihex.proofs.Laying.{no_data}

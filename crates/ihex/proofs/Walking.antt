@@ -1,12 +1,12 @@
 -- The walk over a text, one line further. Assumes nothing.
-use mathlib.Core.Path.{◌≡◌, refl, ap, ap₂, ◌∙◌, sym}
+use mathlib.Core.Path.{◌≡◌, refl, ap, ◌∙◌, sym}
 use mathlib.Core.Bool.{Bool, true, false, not, cond}
-use mathlib.Core.List.{List, [], ◌∷◌, ◌++◌}
-use Prim.Native.Nat.{ℕ, zero, suc, ◌+◌, ◌-◌, ◌*◌, ◌≤◌, ◌<◌}
+use mathlib.Core.List.{List, [], ◌∷◌}
+use Prim.Native.Nat.{ℕ, suc, ◌+◌, ◌-◌, ◌*◌, ◌≤◌, ◌<◌}
 use native.Mathlib.Omega.{arith}
 use native.Mathlib.Numerals.{add-one}
 use lib.Dec.{eqb}
-use lib.ListN.{length, take, drop, get_or, length-drop, drop_of_length-le}
+use lib.ListN.{length, take, drop, length-drop, drop_of_length-le}
 use lib.Seq.{drop-drop}
 use borrow.Author.Tests.{eq-eqb, ne_eqb}
 use Rattle.laws.proofs.Bytes.{rest_is as whole-rest}
@@ -29,7 +29,7 @@ use Rattle.pieces.specs.Image.{Piece, image_of}
 use Rattle.pieces.specs.Refusals.{none}
 use Rattle.pieces.specs.Ways.{Holds}
 use Rattle.pieces.proofs.Images.{image_length, image_front}
-use Rattle.ihex.specs.Reading.{upper_after, given_after, ends, record_refusals, line_refusals, end_refusals, refusals_from, pieces_from, hex_read_refusals, pieces_in, faulty_end, faulty_from, faulty_line, applies}
+use Rattle.ihex.specs.Reading.{upper_after, given_after, ends, record_refusals, line_refusals, end_refusals, refusals_from, pieces_from, hex_read_refusals, pieces_in, faulty_end, faulty_from, faulty_line}
 use Rattle.ihex.specs.declared.Walked.{Walked}
 use Rattle.ihex.specs.Ways.{RecordPlaced, stopped_of, ended_of, Walks}
 use Rattle.ihex.proofs.Laying.{no_data}

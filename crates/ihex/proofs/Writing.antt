@@ -1,10 +1,10 @@
 -- Writing an image's text: lengths, one record further, and the parts in their order. Assumes nothing.
 use mathlib.Core.Path.{◌≡◌, refl, ap, ap₂, ◌∙◌, sym}
 use mathlib.Core.List.{List, [], ◌++◌, append_assoc}
-use Prim.Native.Nat.{ℕ, zero, suc, ◌+◌, ◌-◌, ◌*◌, ◌/◌, ◌%◌, ◌≤◌, ◌<◌}
+use Prim.Native.Nat.{ℕ, zero, suc, ◌+◌, ◌-◌, ◌*◌, ◌%◌, ◌≤◌, ◌<◌}
 use native.Mathlib.Omega.{arith}
-use lib.ListN.{length, take, drop, length-append, length-take, length-drop, take-append-drop, drop_of_length-le}
-use lib.Seq.{sets, take_all, drop-drop, length-take-le}
+use lib.ListN.{length, take, drop, length-append, length-drop, take-append-drop, drop_of_length-le}
+use lib.Seq.{sets, take_all, drop-drop}
 use borrow.Author.Tests.{lt-ltb, le-ltb}
 use Rattle.laws.specs.Bytes.{put}
 use Rattle.laws.proofs.Bytes.{sets-put, put-length, take_at_most}
@@ -15,7 +15,7 @@ use Rattle.board.specs.declared.Board.{Board}
 use Rattle.board.specs.Layout.{flash_first}
 use Rattle.record.specs.Record.{record_of, record_line, offset_count}
 use Rattle.record.proofs.Writing.{line_length_of, record_length_of}
-use Rattle.ihex.specs.Writing.{record_bytes, records_of, upper_half, upper_line, data_lines, end_line, hex_text}
+use Rattle.ihex.specs.Writing.{records_of, upper_half, upper_line, data_lines, end_line, hex_text}
 use Rattle.ihex.specs.Ways.{OneSegment, data_text, text_bytes}
 
 pub written_length : (type offset : ℕ) (xs : List ℕ) → length (record_line (record_of type offset xs)) ≡ 12 + length xs * 2
