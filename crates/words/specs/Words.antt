@@ -34,7 +34,7 @@ mode_name mode.Rebooting = ascii "rebooting"
 abbrev pub status_name : ℕ → List ℕ
 status_name n =
     cond (eqb n 0) (ascii "OK")
-    (cond (eqb n err_target) (ascii "err_target")
-    (cond (eqb n err_write) (ascii "err_write")
-    (cond (eqb n err_vendor) (ascii "err_vendor")
-    (cond (eqb n err_stalledpkt) (ascii "err_stalledpkt") (decimal_of n)))))
+    (cond (eqb n err_target) (ascii "errTARGET")
+    (cond (eqb n err_write) (ascii "errWRITE")
+    (cond (eqb n err_vendor) (ascii "errVENDOR")
+    (cond (eqb n err_stalledpkt) (ascii "errSTALLEDPKT") (decimal_of n)))))
