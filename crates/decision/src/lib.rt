@@ -45,6 +45,7 @@ pub fn asks_status(device: Device, setup: Setup) -> bool
 }
 
 // A request in any mode.
+#[tactic(auto, unfolding(crate::specs::Decide::decide_of))]
 pub fn decide(device: Device, setup: Setup, command: Command) -> Decision
     ensures { result ≡ decide_of device setup command }
 {
