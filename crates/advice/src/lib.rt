@@ -5,6 +5,7 @@ ghost use Rattle.std.specs.Prelude.{◌≤◌};
 
 use board::Board;
 use device::{Device, Pending};
+use files::System;
 use reasons::ends::{Altered, Stopped};
 use reasons::event::Failed;
 use reasons::flash::Found;
@@ -21,26 +22,29 @@ fn before(line: usize) -> usize {
 }
 
 // The event that fails, and the board before it.
-fn failed(line: usize, packed: &[u8], card: &[u8]) {
+fn failed(rt: &impl System, line: usize, packed: &[u8], card: &[u8]) {
     let scene = trial::run(packed, before(line), card, 0, 0);
     let at = buffer::least(scene.at, packed.len());
     let asked = player::asks(&packed[at..]);
     let device = scene.device;
     let setup = asked.setup;
     let spelled = asked.pending;
-    event::fails(Failed {
-        line,
-        device,
-        setup,
-        spelled,
-        left: scene.left,
-        dirt: scene.dirt,
-        is_protected: scene.is_protected,
-    });
+    event::fails(
+        rt,
+        Failed {
+            line,
+            device,
+            setup,
+            spelled,
+            left: scene.left,
+            dirt: scene.dirt,
+            is_protected: scene.is_protected,
+        },
+    );
 }
 
 // The end, and which option byte is not the card's.
-fn ended(condition: u8, packed: &[u8], card: &[u8]) {
+fn ended(rt: &impl System, condition: u8, packed: &[u8], card: &[u8]) {
     let all = packed.len();
     let scene = trial::run(packed, all, card, 0, 0);
     let number = buffer::least(scene.altered, Board::OPTION_BYTES);
@@ -61,7 +65,7 @@ fn ended(condition: u8, packed: &[u8], card: &[u8]) {
         pointed: scene.pointed,
         left: scene.left,
     };
-    ends::unmet(condition, stopped, found, cause.device);
+    ends::unmet(rt, condition, stopped, found, cause.device);
 }
 
 // The byte that belongs into flash at an offset, in the pages of the image.
@@ -102,7 +106,7 @@ fn doer(side: usize, changed: usize, earlier: usize, last: Device) -> usize {
 }
 
 // The byte that differs, on two boards, and what did something to it.
-fn differs(offset: usize, packed: &[u8], image: &[u8], card: &[u8]) {
+fn differs(rt: &impl System, offset: usize, packed: &[u8], image: &[u8], card: &[u8]) {
     let all = packed.len();
     let board = Board::LOGGER;
     let place = place_of(offset);
@@ -124,7 +128,7 @@ fn differs(offset: usize, packed: &[u8], image: &[u8], card: &[u8]) {
         is_locked: protection::write_protected(protection::word(board, card, 0), page),
         line: guard.changed,
     };
-    flash::wrong(found, line, cause.device);
+    flash::wrong(rt, found, line, cause.device);
 }
 
 // How many bytes of evidence there are.
@@ -139,13 +143,26 @@ fn size(evidence: Done, room: usize) -> usize
 
 // Says a verdict to people. At the front of `room` stands the evidence that was gathered for it: the job's events,
 // packed.
-pub fn explain(verdict: Verdict, evidence: Done, room: &[u8], image: &[u8], card: &[u8]) {
+pub fn explain(
+    rt: &impl System,
+    verdict: Verdict,
+    evidence: Done,
+    room: &[u8],
+    image: &[u8],
+    card: &[u8],
+) {
     let packed = &room[0..size(evidence, room.len())];
     match verdict {
-        Verdict::Pass => refused::passed(image.len()),
-        Verdict::Refused(why) => refused::refuses(why, image.len(), card.len(), plan::LOGGER_JOB),
-        Verdict::Event(line) => failed(line, packed, card),
-        Verdict::End(condition) => ended(condition, packed, card),
-        Verdict::Flash(offset) => differs(offset, packed, image, card),
+        Verdict::Pass => refused::passed(rt, image.len()),
+        Verdict::Refused(why) => refused::refuses(
+            rt,
+            why,
+            image.len(),
+            card.len(),
+            plan::LOGGER_JOB,
+        ),
+        Verdict::Event(line) => failed(rt, line, packed, card),
+        Verdict::End(condition) => ended(rt, condition, packed, card),
+        Verdict::Flash(offset) => differs(rt, offset, packed, image, card),
     }
 }

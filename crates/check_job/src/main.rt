@@ -3,8 +3,7 @@
 #![tactic(auto)]
 
 use board::Board;
-use files::Got;
-use libc::{STDERR_FILENO, STDOUT_FILENO};
+use files::{Got, Stream, System};
 use refusal::Refusal;
 use verdict::Verdict;
 
@@ -27,23 +26,24 @@ fn after(much: usize, got: Got) -> usize {
     if got.is_read { much } else { telling::NOTHING }
 }
 
-fn judge(job: &[u8], image: &[u8], card: &[u8], is_quiet: bool) {
+fn judge(rt: &impl System, job: &[u8], image: &[u8], card: &[u8], is_quiet: bool) {
     let mut work = [0u8; marks::LOGGER_WORK];
     let verdict = checker::check(job, image, card, &mut work);
-    telling::line(STDOUT_FILENO, verdict);
+    telling::line(rt, Stream::Out, verdict);
     if is_quiet {
         return;
     }
     let gathered = telling::gather(verdict, job, &mut work);
-    advice::explain(verdict, gathered, &work, image, card);
-    files::write(STDERR_FILENO, b"\n", 1);
+    advice::explain(rt, verdict, gathered, &work, image, card);
+    files::write(rt, Stream::Err, b"\n", 1);
 }
 
 // Reads the image, last of the three: a HEX text is refused only where every file could be read.
-fn hold(job: &[u8], card: &[u8], much: usize) {
+fn hold(rt: &impl System, job: &[u8], card: &[u8], much: usize) {
     let mut image = [0u8; IMAGE_ROOM];
     let got = images::load(
-        STDOUT_FILENO,
+        rt,
+        Stream::Out,
         much,
         2,
         b"image|image.bin|job, image and card; an image in HEX is called image.hex there",
@@ -51,70 +51,72 @@ fn hold(job: &[u8], card: &[u8], much: usize) {
     );
     if got.is_read && much != telling::NOTHING {
         let count = got.count;
-        judge(job, &image[0..count], card, much == telling::LINE);
+        judge(rt, job, &image[0..count], card, much == telling::LINE);
     }
 }
 
 // Reads the card.
-fn suit(job: &[u8], much: usize) {
+fn suit(rt: &impl System, job: &[u8], much: usize) {
     let mut card = [0u8; CARD_ROOM];
     let got = telling::load(
-        STDOUT_FILENO,
+        rt,
+        Stream::Out,
         much,
         3,
         b"card|card.bin|job, image and card",
         &mut card,
     );
     let count = got.count;
-    hold(job, &card[0..count], after(much, got));
+    hold(rt, job, &card[0..count], after(much, got));
 }
 
 // Reads the job. All three files are asked for, whatever comes of one: a call without files then costs what a call
 // costs beside its work, and the figures take it off.
-fn check(much: usize) {
+fn check(rt: &impl System, much: usize) {
     let mut job = [0u8; JOB_ROOM];
     let got = telling::load(
-        STDOUT_FILENO,
+        rt,
+        Stream::Out,
         much,
         1,
         b"job|job.txt|job, image and card",
         &mut job,
     );
     let count = got.count;
-    suit(&job[0..count], after(much, got));
+    suit(rt, &job[0..count], after(much, got));
 }
 
 // Is there one word behind the names, and is it `quiet`? A longer word has no room, and counts as one of no bytes.
-fn is_quiet(count: usize) -> bool {
+fn is_quiet(rt: &impl System, count: usize) -> bool {
     let mut word = [0u8; WORD];
-    let length = os::arg(NAMED, &mut word);
+    let length = files::argument(rt, NAMED, &mut word);
     count == NAMED + 1 && length == WORD && compare::same_bytes(&word, b"quiet")
 }
 
 // How much the call asks for: words, where it names three files or none; the line, where it names three and adds the
 // word; nothing, where it is no call that the program knows.
-fn asked(count: usize) -> usize {
+fn asked(rt: &impl System, count: usize) -> usize {
     if count < 2 {
         return telling::WORDS;
     }
     if count == NAMED {
         return telling::WORDS;
     }
-    if is_quiet(count) {
+    if is_quiet(rt, count) {
         telling::LINE
     } else {
         telling::NOTHING
     }
 }
 
-fn main() {
-    let much = asked(os::arg_count());
+fn main(rt: HostRuntime) {
+    let much = asked(&rt, files::arguments(&rt));
     if much != telling::NOTHING {
-        check(much);
+        check(&rt, much);
         return;
     }
-    telling::line(STDOUT_FILENO, Verdict::Refused(Refusal::File));
+    telling::line(&rt, Stream::Out, Verdict::Refused(Refusal::File));
     let words =
         b"Name three files, the job, the image and the card, or none to take job.txt, image.bin and card.bin in this folder; behind three names, add the word quiet for the line alone.\n";
-    files::write(STDERR_FILENO, words, words.len());
+    files::write(&rt, Stream::Err, words, words.len());
 }

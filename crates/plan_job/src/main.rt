@@ -5,7 +5,7 @@
 mod refuse;
 
 use board::Board;
-use libc::{STDERR_FILENO, STDOUT_FILENO};
+use files::{Stream, System};
 use refusal::Done;
 
 // One byte more than an image and a card may have, so that a longer file shows as such.
@@ -17,20 +17,21 @@ const CARD_ROOM: usize = Board::OPTION_BYTES + 1;
 const NAMED: usize = 3;
 
 // Writes the job of an image for a card.
-fn perform(image: &[u8], card: &[u8]) {
+fn perform(rt: &impl System, image: &[u8], card: &[u8]) {
     let mut job = [0u8; plan::LOGGER_JOB];
     let done = plan::plan(image, card, &mut job);
     match done {
-        Done::Bytes(size) => files::write(STDOUT_FILENO, &job, size),
-        Done::Refused(why) => refuse::plan(why, image, card),
+        Done::Bytes(size) => files::write(rt, Stream::Out, &job, size),
+        Done::Refused(why) => refuse::plan(rt, why, image, card),
     }
 }
 
 // Reads the image for a board's card, the last of the two: a HEX text is refused only where both files could be read.
-fn make(card: &[u8]) {
+fn make(rt: &impl System, card: &[u8]) {
     let mut image = [0u8; IMAGE_ROOM];
     let got = images::load(
-        STDERR_FILENO,
+        rt,
+        Stream::Err,
         telling::WORDS,
         1,
         b"image|image.bin|image and card; an image in HEX is called image.hex there",
@@ -38,15 +39,16 @@ fn make(card: &[u8]) {
     );
     if got.is_read {
         let count = got.count;
-        perform(&image[0..count], card);
+        perform(rt, &image[0..count], card);
     }
 }
 
 // Reads the card.
-fn suit() {
+fn suit(rt: &impl System) {
     let mut card = [0u8; CARD_ROOM];
     let got = telling::load(
-        STDERR_FILENO,
+        rt,
+        Stream::Err,
         telling::WORDS,
         2,
         b"card|card.bin|image and card",
@@ -54,14 +56,14 @@ fn suit() {
     );
     if got.is_read {
         let count = got.count;
-        make(&card[0..count]);
+        make(rt, &card[0..count]);
     }
 }
 
-fn main() {
-    if os::arg_count() <= NAMED {
-        suit();
+fn main(rt: HostRuntime) {
+    if files::arguments(&rt) <= NAMED {
+        suit(&rt);
         return;
     }
-    refuse::arguments();
+    refuse::arguments(&rt);
 }

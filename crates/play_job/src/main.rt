@@ -10,7 +10,7 @@ mod play;
 mod refuse;
 
 use board::Board;
-use libc::STDOUT_FILENO;
+use files::{Stream, System};
 use refusal::{Done, Refusal};
 
 // One byte more than a job and a board may have, so that a longer file shows as such.
@@ -25,14 +25,15 @@ const PACKED_ROOM: usize = text::LIMIT / 2;
 const NAMED: usize = 3;
 
 // Plays the events of a text on a board.
-fn perform(text: &[u8], board: &[u8]) {
+fn perform(rt: &impl System, text: &[u8], board: &[u8]) {
     let mut packed = [0u8; PACKED_ROOM];
     let read = job::read(text, &mut packed);
     match read {
         Done::Bytes(size) => if size <= packed.len() {
-            play::play(&packed[0..size], board);
+            play::play(rt, &packed[0..size], board);
         },
         Done::Refused(why) => refuse::say(
+            rt,
             why,
             b"[The job has more than # bytes. Take out lines that it does not need.|Line # of the job is malformed. Correct it: a line is A, or Q, a tab, 16 digits, a tab and the data, with as many bytes as the setup asks for, in hexadecimal of either case, and ends with LF alone; A and Q are capitals.]\n",
             &[why.line(), text::LIMIT, why.line()],
@@ -41,11 +42,12 @@ fn perform(text: &[u8], board: &[u8]) {
 }
 
 // Reads both files, the job first.
-fn load_and_play() {
+fn load_and_play(rt: &impl System) {
     let mut text = [0u8; TEXT_ROOM];
     let mut board = [0u8; BOARD_ROOM];
     let job = telling::load(
-        STDOUT_FILENO,
+        rt,
+        Stream::Out,
         telling::WORDS,
         1,
         b"job|job.txt|job and board",
@@ -55,7 +57,8 @@ fn load_and_play() {
         return;
     }
     let memory = telling::load(
-        STDOUT_FILENO,
+        rt,
+        Stream::Out,
         telling::WORDS,
         2,
         b"board|board.bin|job and board",
@@ -66,15 +69,16 @@ fn load_and_play() {
     }
     let job_bytes = job.count;
     let board_bytes = memory.count;
-    perform(&text[0..job_bytes], &board[0..board_bytes]);
+    perform(rt, &text[0..job_bytes], &board[0..board_bytes]);
 }
 
-fn main() {
-    if os::arg_count() <= NAMED {
-        load_and_play();
+fn main(rt: HostRuntime) {
+    if files::arguments(&rt) <= NAMED {
+        load_and_play(&rt);
         return;
     }
     refuse::say(
+        &rt,
         Refusal::File,
         b"Name two files, the job and the board, or none to take job.txt and board.bin in this folder.\n",
         &[0],

@@ -5,7 +5,7 @@ ghost use Rattle.board.specs.Layout.{logger, memory_bytes};
 use crate::{change, event, refuse};
 use board::Board;
 use device::Device;
-use libc::STDOUT_FILENO;
+use files::{Stream, System};
 use loader::Stepped;
 use player::Asked;
 use refusal::Refusal;
@@ -20,17 +20,26 @@ const RAM: usize = Board::LOGGER_MEMORY - Board::LOGGER_FLASH - Board::OPTION_BY
 const LINE_ROOM: usize = 1200;
 
 // Prints the line of an event that happened to a device with this pointer, and what it changed.
-fn print(number: usize, pointer: u32, asked: Asked, stepped: Stepped, old: &[u8], new: &[u8]) {
+fn print(
+    rt: &impl System,
+    number: usize,
+    pointer: u32,
+    asked: Asked,
+    stepped: Stepped,
+    old: &[u8],
+    new: &[u8],
+) {
     let mut line = [0u8; LINE_ROOM];
     let end = event::request(number, pointer, asked, &mut line);
     let end = event::outcome(stepped, &mut line, end);
     let end = change::list(old, new, change::INLINE, &mut line, end);
     let end = append::say(b"\n", &mut line, end);
-    files::write(STDOUT_FILENO, &line, end);
+    files::write(rt, Stream::Out, &line, end);
 }
 
 // Lets an event happen and prints its line; gives the device after it.
 fn turn(
+    rt: &impl System,
     device: Device,
     number: usize,
     piece: &[u8],
@@ -44,7 +53,7 @@ fn turn(
     buffer::put(&mut before, 0, memory);
     let asked = player::asks(piece);
     let stepped = player::step(device, piece, memory, block, reply);
-    print(number, device.pointer, asked, stepped, &before, memory);
+    print(rt, number, device.pointer, asked, stepped, &before, memory);
     stepped.device
 }
 
@@ -54,7 +63,7 @@ fn some(differs: bool) -> usize {
 }
 
 // Prints the device and the differences that the whole job made.
-fn conclude(number: usize, device: Device, old: &[u8], new: &[u8]) {
+fn conclude(rt: &impl System, number: usize, device: Device, old: &[u8], new: &[u8]) {
     let mut line = [0u8; LINE_ROOM];
     let end = event::sum_up(number, device, &mut line);
     let listed = change::list(old, new, change::ALONE, &mut line, end);
@@ -65,12 +74,13 @@ fn conclude(number: usize, device: Device, old: &[u8], new: &[u8]) {
         &mut line,
         listed,
     );
-    files::write(STDOUT_FILENO, &line, end);
+    files::write(rt, Stream::Out, &line, end);
 }
 
 // A file that is no board's memory.
-fn refuse_size() {
+fn refuse_size(rt: &impl System) {
     refuse::say(
+        rt,
         Refusal::Memory,
         b"A board has # bytes: # of flash, # of RAM, # of options. Give a file of that size.\n",
         &[
@@ -83,9 +93,9 @@ fn refuse_size() {
 }
 
 // Plays packed events on a board that was just attached, if it is one.
-pub(crate) fn play(packed: &[u8], board: &[u8]) {
+pub(crate) fn play(rt: &impl System, packed: &[u8], board: &[u8]) {
     if board.len() != Board::LOGGER_MEMORY {
-        refuse_size();
+        refuse_size(rt);
         return;
     }
     let mut memory = [0u8; Board::LOGGER_MEMORY];
@@ -100,6 +110,7 @@ pub(crate) fn play(packed: &[u8], board: &[u8]) {
         let end = at + size;
         number += 1;
         device = turn(
+            rt,
             device,
             number,
             &packed[at..end],
@@ -110,5 +121,5 @@ pub(crate) fn play(packed: &[u8], board: &[u8]) {
         at = end;
         size = packed::piece_length(&packed[at..]);
     }
-    conclude(number, device, board, &memory);
+    conclude(rt, number, device, board, &memory);
 }

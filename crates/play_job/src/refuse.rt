@@ -1,5 +1,5 @@
 // Refusals: the line that names one, on standard output, and a sentence for people, on standard error.
-use libc::{STDERR_FILENO, STDOUT_FILENO};
+use files::{Stream, System};
 use refusal::Refusal;
 use verdict::Verdict;
 
@@ -7,14 +7,14 @@ use verdict::Verdict;
 const ROOM: usize = 512;
 
 // The line.
-fn name(why: Refusal) {
-    telling::line(STDOUT_FILENO, Verdict::Refused(why));
+fn name(rt: &impl System, why: Refusal) {
+    telling::line(rt, Stream::Out, Verdict::Refused(why));
 }
 
 // The line and a sentence with its numbers.
-pub(crate) fn say(why: Refusal, template: &[u8], numbers: &[usize]) {
+pub(crate) fn say(rt: &impl System, why: Refusal, template: &[u8], numbers: &[usize]) {
     let mut room = [0u8; ROOM];
     let count = sentence::fill(template, numbers, b"", &mut room, 0);
-    name(why);
-    files::write(STDERR_FILENO, &room, count);
+    name(rt, why);
+    files::write(rt, Stream::Err, &room, count);
 }

@@ -1,6 +1,7 @@
 // What requests ask for and what commands do, in words, with the addresses that they concern.
 use crate::{form, place, say};
 use device::{Device, Pending};
+use files::System;
 use request::{Request, Setup};
 
 // What is done, as the sentence in `tell` counts it, with the block and so many bytes from an address on; a count of 0
@@ -112,35 +113,36 @@ fn lead(request: Request, what: usize) -> usize {
     }
 }
 
-fn tell(lead: usize, deed: Deed) {
+fn tell(rt: &impl System, lead: usize, deed: Deed) {
     let count = deed.count as usize;
     let block = deed.block as usize;
     say::fill(
+        rt,
         b"[|, which runs | for ][|a command that the loader does not know|the mass erase|the read unprotect|the set pointer to |the erase of the page at |the write of | of length 0, which asks the loader to leave| of the list of commands| of | of ][|# byte, block #|# bytes, block #][||||||, into |||, out of |]",
         &[
             lead, deed.what, count, count, block, count, block, deed.what,
         ],
     );
     if deed.size != 0 {
-        place::span(deed.from, deed.size);
+        place::span(rt, deed.from, deed.size);
     }
 }
 
 // The line that changed something, and what it ran on the device; `letter` is 0 for a capital one, at the front of a
 // sentence.
-pub(crate) fn ran(letter: usize, line: usize, device: Device) {
+pub(crate) fn ran(rt: &impl System, letter: usize, line: usize, device: Device) {
     let pending = device.pending;
-    say::tell(b"[L|l]ine # of the job runs ", letter, line, 0, 0);
-    tell(0, of(device.pointer, pending));
+    say::tell(rt, b"[L|l]ine # of the job runs ", letter, line, 0, 0);
+    tell(rt, 0, of(device.pointer, pending));
 }
 
 // A request to a device in this state; `spelled` is the command that its data spells.
-pub(crate) fn describe(device: Device, setup: Setup, spelled: Pending) {
+pub(crate) fn describe(rt: &impl System, device: Device, setup: Setup, spelled: Pending) {
     let request = setup.request();
     let deed = known(device, request, setup, spelled);
-    say::request(form::named(setup));
+    say::request(rt, form::named(setup));
     match request {
-        Request::Unknown => form::describe(setup),
-        _ => tell(lead(request, deed.what), deed),
+        Request::Unknown => form::describe(rt, setup),
+        _ => tell(rt, lead(request, deed.what), deed),
     }
 }

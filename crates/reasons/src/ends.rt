@@ -2,6 +2,7 @@
 use crate::{deed, place, say};
 use board::Board;
 use device::Device;
+use files::System;
 use mode::Mode;
 
 // The board after the job; how many lines the job has, the last of them that set the pointer, and the one by which the
@@ -38,17 +39,19 @@ fn due(mode: Mode) -> usize {
 }
 
 // The loader has not left.
-fn stayed(mode: Mode, count: usize) {
+fn stayed(rt: &impl System, mode: Mode, count: usize) {
     let due = due(mode);
     say::tell(
+        rt,
         b"[The job has no line: the loader's state still is |After the job's last line (line #) the loader's state is ]",
         count,
         count,
         0,
         0,
     );
-    say::mode(mode);
+    say::mode(rt, mode);
     say::tell(
+        rt,
         b", and the new program is not started. [Add the GETSTATUS with which the loader leaves.|Send the GETSTATUS that are due, and end|Send the GETSTATUS that is due, and end|Send ABORT, and end|Add a line A, for the board to be attached again, and end|End][| the job as a plan ends: set pointer to @, two GETSTATUS, DNLOAD of length 0, one GETSTATUS.]",
         due,
         due,
@@ -59,10 +62,18 @@ fn stayed(mode: Mode, count: usize) {
 
 // The loader leaves, by the DNLOAD of length 0 in line `left`, for another place than the flash's start, to which line
 // `pointed` set the pointer.
-fn astray(pointer: u32, pointed: usize, left: usize) {
-    say::tell(b"Line # of the job sets the pointer to ", pointed, 0, 0, 0);
-    place::span(pointer as u64, 1);
+fn astray(rt: &impl System, pointer: u32, pointed: usize, left: usize) {
     say::tell(
+        rt,
+        b"Line # of the job sets the pointer to ",
+        pointed,
+        0,
+        0,
+        0,
+    );
+    place::span(rt, pointer as u64, 1);
+    say::tell(
+        rt,
         b", where it still is when the job leaves, and the board would start its program from there. Set the pointer to @, with two GETSTATUS, before the DNLOAD of length 0 in line #.",
         Board::LOGGER.flash_first() as usize,
         left,
@@ -81,9 +92,10 @@ fn restore(number: usize, is_protected: bool) -> usize {
 }
 
 // The options are not those of the card any more; the line runs on this device.
-fn changed(found: Altered, device: Device) {
-    deed::ran(0, found.line, device);
+fn changed(rt: &impl System, found: Altered, device: Device) {
+    deed::ran(rt, 0, found.line, device);
     say::tell(
+        rt,
         b", and option byte # is % then and not % as on the card. [The card is read-protected: lift that on the board first, which erases the flash, then check a job with no read unprotect with the card that the board has then.|That protects the board from reading. Take it out of the job.|Take it out of the job, or write the card's bytes back before the job leaves.]",
         found.number,
         found.byte as usize,
@@ -93,12 +105,12 @@ fn changed(found: Altered, device: Device) {
 }
 
 // The condition that fails after the job; `before` is the board before the line that altered its options.
-pub fn unmet(condition: u8, stopped: Stopped, found: Altered, before: Device) {
+pub fn unmet(rt: &impl System, condition: u8, stopped: Stopped, found: Altered, before: Device) {
     let device = stopped.device;
     let mode = device.mode;
     match condition {
-        1 => stayed(mode, stopped.count),
-        2 => astray(device.pointer, stopped.pointed, stopped.left),
-        _ => changed(found, before),
+        1 => stayed(rt, mode, stopped.count),
+        2 => astray(rt, device.pointer, stopped.pointed, stopped.left),
+        _ => changed(rt, found, before),
     }
 }

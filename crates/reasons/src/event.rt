@@ -3,6 +3,7 @@ use crate::{deed, form, place, say};
 use action::Action;
 use board::{Board, Place};
 use device::{Device, Pending};
+use files::System;
 use mode::Mode;
 use request::{Request, Setup};
 
@@ -122,10 +123,11 @@ fn why(device: Device, setup: Setup, is_protected: bool) -> usize {
     untimely(request, mode)
 }
 
-fn stalls(mode: Mode, reason: usize) {
-    say::text(b"In ");
-    say::mode(mode);
+fn stalls(rt: &impl System, mode: Mode, reason: usize) {
+    say::text(rt, b"In ");
+    say::mode(rt, mode);
     say::tell(
+        rt,
         b" the loader stalls it. [A command waits then: send GETSTATUS first, which runs it.|Send GETSTATUS once more before it.|Put it before the DNLOAD of length 0, or take it out.|Send ABORT before it.|Only dfuERROR takes it, and no good job gets there: take it out.]",
         reason % UNTIMELY,
         0,
@@ -135,10 +137,11 @@ fn stalls(mode: Mode, reason: usize) {
 }
 
 // A write to flash that is not erased, first at this place of memory.
-fn dirty(first: usize) {
-    say::text(b"On some board the byte at ");
-    place::byte(first);
+fn dirty(rt: &impl System, first: usize) {
+    say::text(rt, b"On some board the byte at ");
+    place::byte(rt, first);
     say::tell(
+        rt,
         b" is not erased by then, and the loader writes nothing and reports errWRITE. Erase page # in the lines before, and write no byte twice.",
         Board::LOGGER.page_at(first),
         0,
@@ -148,31 +151,33 @@ fn dirty(first: usize) {
 }
 
 // The reason; the loader has left by line `left`, and `dirt` is the place of the first byte in the way of a write.
-fn tell(reason: usize, left: usize, dirt: usize, mode: Mode, setup: Setup) {
+fn tell(rt: &impl System, reason: usize, left: usize, dirt: usize, mode: Mode, setup: Setup) {
     match reason {
-        DIRTY => dirty(dirt),
-        MISSHAPED => form::correct(setup),
+        DIRTY => dirty(rt, dirt),
+        MISSHAPED => form::correct(rt, setup),
         0..=9 => say::tell(
+            rt,
             b"The [loader has left before this line and answers nothing. Take out the lines from here on or, where the job needs them, the DNLOAD of length 0 in line #.|board reboots before this line, for its options were written or its read protection was lifted, and answers nothing. Put a line A before this one.|loader stalls it, for blocks are numbered from 2 on. Correct wValue.|loader stalls it: with wValue 0 it takes 21 and four address bytes, 41 and four, 41 alone, or 92 alone. Correct the data, or write a block with wValue 2.|loader reports errVENDOR, for read protection is on (option byte 0 is not AA). Lift it on the board, which erases the flash, then check again with the card that the board has then.|loader reports errTARGET, for options are read and written all # at once, from @ on. Correct the pointer or the length.|loader reports errTARGET, for these bytes do not lie in one region. Correct the pointer, wValue or the length.|loader reports errTARGET, for flash and RAM are read and written two bytes at least. Ask for two, and pad a write with FF.|loader reports errTARGET, for only flash has pages. Correct the address.|loader reports errTARGET, for the address is in no region. Correct it.]",
             reason,
             left,
             Board::OPTION_BYTES,
             Board::LOGGER.options_first() as usize,
         ),
-        _ => stalls(mode, reason),
+        _ => stalls(rt, mode, reason),
     }
 }
 
 // The line of the event, its request, and the reason.
-pub fn fails(failed: Failed) {
+pub fn fails(rt: &impl System, failed: Failed) {
     let device = failed.device;
     let mode = device.mode;
     let setup = failed.setup;
     let spelled = failed.spelled;
-    say::tell(b"Line # of the job is ", failed.line, 0, 0, 0);
-    deed::describe(device, setup, spelled);
-    say::text(b". ");
+    say::tell(rt, b"Line # of the job is ", failed.line, 0, 0, 0);
+    deed::describe(rt, device, setup, spelled);
+    say::text(rt, b". ");
     tell(
+        rt,
         why(device, setup, failed.is_protected),
         failed.left,
         failed.dirt,

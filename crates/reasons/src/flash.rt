@@ -5,6 +5,7 @@
 use crate::{deed, place, say};
 use board::Board;
 use device::{Device, Pending};
+use files::System;
 
 // A byte of flash after the job: its place in memory, and the side that it lies on (0 in the image, 1 behind it in its
 // last page, 2 in a page that the image does not reach); its value on either board, the one that it has to have, whether
@@ -29,9 +30,10 @@ fn hold(is_locked: bool, line: usize) -> usize {
     if line == 0 { 1 } else { 2 }
 }
 
-fn stuck(found: Found) {
+fn stuck(rt: &impl System, found: Found) {
     let page = Board::LOGGER.page_at(found.place);
     say::fill(
+        rt,
         b"[page # is write-protected by the card (option byte #, bit #): the loader answers OK to every erase and write there and leaves the page as it is, so the old code would stay. Lift the write protection of page # on the board, then check again with the card that the board has then.|the job leaves it as it was. Erase page # in the job, then write the image's bytes to it.|the job leaves it as it was. The job changes the write protection, last in line #: erase and write page # while it is not write-protected.]",
         &[
             hold(found.is_locked, found.line),
@@ -59,12 +61,13 @@ fn advice(side: usize, zero: u8, pending: Pending) -> usize {
 }
 
 // What a line did to the byte on this device.
-fn done(found: Found, line: usize, device: Device) {
+fn done(rt: &impl System, found: Found, line: usize, device: Device) {
     let pending = device.pending;
     let advice = advice(found.side, found.zero, pending);
     let want = found.want as usize;
-    deed::ran(1, line, device);
+    deed::ran(rt, 1, line, device);
     say::tell(
+        rt,
         b"[, and no write of % to it runs after that. Write the image's bytes behind that line, each write with the GETSTATUS that runs it, or take the image that the job was made for.|, which leaves % there and not %. Correct the data or the address of the write, or take the image that the job was made for.|. In place of the mass erase, erase the image's pages one by one, and write to no other.|, which erases all flash of a read-protected board. Lift the read protection on the board first, then check a job with no read unprotect with the card that the board has then.|. Take that erase out of the job, and what it writes to this page.]",
         advice,
         want,
@@ -74,10 +77,11 @@ fn done(found: Found, line: usize, device: Device) {
 }
 
 // The byte, and the line that did something to it, on this device.
-pub fn wrong(found: Found, line: usize, device: Device) {
-    say::text(b"The byte at ");
-    place::byte(found.place);
+pub fn wrong(rt: &impl System, found: Found, line: usize, device: Device) {
+    say::text(rt, b"The byte at ");
+    place::byte(rt, found.place);
     say::tell(
+        rt,
         b" [belongs to the image|lies behind the image in its last page and has to be erased|lies behind the image's last page and has to stay as it is], but ",
         found.side,
         0,
@@ -85,8 +89,8 @@ pub fn wrong(found: Found, line: usize, device: Device) {
         0,
     );
     if found.side == 2 || found.zero == found.erased {
-        done(found, line, device);
+        done(rt, found, line, device);
         return;
     }
-    stuck(found);
+    stuck(rt, found);
 }

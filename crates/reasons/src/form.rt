@@ -1,5 +1,6 @@
 // The form of each request, by its type and code: what its fields have to be.
 use crate::say;
+use files::System;
 use request::{Request, Setup};
 
 // The request that type and code name, whatever the fields are.
@@ -26,8 +27,9 @@ fn number(setup: Setup) -> usize {
 }
 
 // A setup that is none of the loader's requests, behind the name that its type and code have.
-pub(crate) fn describe(setup: Setup) {
+pub(crate) fn describe(rt: &impl System, setup: Setup) {
     say::fill(
+        rt,
         b"[ (type 0x%, code #)| with wValue #, wIndex # and wLength #]",
         &[
             number(setup),
@@ -57,9 +59,10 @@ fn mend(request: usize, length: u16) -> usize {
 }
 
 // What the fields have to be.
-pub(crate) fn correct(setup: Setup) {
+pub(crate) fn correct(rt: &impl System, setup: Setup) {
     let request = number(setup);
     say::fill(
+        rt,
         b"The loader stalls it, for [only DNLOAD, UPLOAD, GETSTATUS, CLRSTATUS, GETSTATE and ABORT are known to it. Correct type and code, or take the line out.|a DNLOAD has wIndex 0 and wLength 0 to #.|an UPLOAD has wIndex 0 and wLength 1 to #.|a GETSTATUS has wValue 0, wIndex 0 and wLength 6.|a CLRSTATUS has wValue 0, wIndex 0 and wLength 0.|a GETSTATE has wValue 0, wIndex 0 and wLength 1.|an ABORT has wValue 0, wIndex 0 and wLength 0.][| Correct the setup.| Write the bytes in two or more blocks.| Read the bytes in two or more blocks.]",
         &[
             request,

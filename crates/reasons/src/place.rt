@@ -3,6 +3,7 @@ ghost use Rattle.std.specs.Prelude.{◌≤◌};
 
 use crate::say;
 use board::{Board, Place};
+use files::System;
 
 // How many addresses there are.
 const ADDRESSES: u64 = 0x1_0000_0000;
@@ -36,13 +37,14 @@ fn page_of(address: usize) -> usize {
 }
 
 // So many bytes from an address on.
-pub(crate) fn span(from: u64, count: u16) {
+pub(crate) fn span(rt: &impl System, from: u64, count: u16) {
     let place = Board::LOGGER.place(from, count as u64);
     let first = (from % ADDRESSES) as usize;
     let last = first + but_one(count);
     let low = page_of(first);
     let high = page_of(last);
     say::fill(
+        rt,
         b"@[| to @][ (RAM)| (options)| (not in a region)| (page #)| (pages # to #)]",
         &[
             first,
@@ -57,7 +59,7 @@ pub(crate) fn span(from: u64, count: u16) {
 }
 
 // The byte at a place of memory.
-pub(crate) fn byte(place: usize) {
+pub(crate) fn byte(rt: &impl System, place: usize) {
     let stretch = Board::LOGGER.stretch_at(place);
-    span(stretch.address as u64, 1);
+    span(rt, stretch.address as u64, 1);
 }

@@ -1,11 +1,13 @@
 // A job that passes, and why there is no verdict on one: what to do.
 use crate::say;
 use board::Board;
+use files::System;
 use refusal::Refusal;
 
 // The job works on every board.
-pub fn passed(image: usize) {
+pub fn passed(rt: &impl System, image: usize) {
     say::tell(
+        rt,
         b"Play the job: on every board with this card, whatever its flash and RAM hold, it puts the image of # byte[s||s] in place and starts it.",
         image,
         image,
@@ -32,9 +34,10 @@ fn plural(card: usize) -> usize {
 
 // A refusal of the checker; the sentence picks by its number. The ones left out are not its own, or are about a work
 // area of another size than ours. `longest` is the length of the longest plan.
-pub fn refuses(why: Refusal, image: usize, card: usize, longest: usize) {
+pub fn refuses(rt: &impl System, why: Refusal, image: usize, card: usize, longest: usize) {
     let number = why.number() as usize;
     say::fill(
+        rt,
         b"[|||||||The image |The card has |The job has more than 60000 bytes|Line # of the job is malformed|][is empty|has more bytes than the flash|# byte|# bytes|more than # bytes|][|||||||. Give an image of 1 to # bytes.|. Give the # option bytes as they are read from @.|. Take out lines that it does not need: the plan of the longest image has # bytes.|. Correct it: a line is A, or Q, a tab, 16 digits, a tab and the data, with as many bytes as the setup asks for, in hexadecimal of either case, and ends with LF alone; A and Q are capitals.|]",
         &[
             number,

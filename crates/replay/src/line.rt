@@ -37,7 +37,7 @@ fn numbers_of(answer: Answer) -> Spoken {
 }
 
 // The answer and the device, in front of the line.
-fn print_device(stepped: Stepped) {
+fn print_device(rt: &impl Print, stepped: Stepped) {
     let answer = stepped.answer;
     let device = stepped.device;
     let spoken = numbers_of(answer);
@@ -49,6 +49,7 @@ fn print_device(stepped: Stepped) {
     let n = command.block as usize;
     let c = command.count as usize;
     feed::print(
+        rt,
         b"[A|P|S|N|R] %% % % %%%% # %%%% %% %% ",
         &[
             spoken.letter,
@@ -74,12 +75,13 @@ fn print_device(stepped: Stepped) {
 }
 
 // Behind them the digest of each buffer, and the reply buffer's first six bytes, if it has any.
-pub(crate) fn print(stepped: Stepped, memory: &[u8], block: &[u8], reply: &[u8]) {
-    print_device(stepped);
+pub(crate) fn print(rt: &impl Print, stepped: Stepped, memory: &[u8], block: &[u8], reply: &[u8]) {
+    print_device(rt, stepped);
     let m = digest(memory);
     let b = digest(block);
     let y = digest(reply);
     feed::print(
+        rt,
         b"%%%% %%%% %%%% [|%%%%%%]\n",
         &[
             m / 16777216,

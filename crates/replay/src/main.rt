@@ -11,6 +11,7 @@ mod scene;
 
 use board::Board;
 use device::Device;
+use feed::Feed;
 use scene::Lending;
 
 // Room for a record with the longest request behind it, and for every buffer a byte longer than is right.
@@ -20,6 +21,7 @@ const MEMORY_ROOM: usize = Board::LOGGER_MEMORY + 1;
 
 // Lets the event happen, if the record is one, and prints what became of it.
 fn happen(
+    rt: &impl Print,
     device: Device,
     kind: u8,
     request: &[u8],
@@ -32,12 +34,13 @@ fn happen(
     }
     let event = record::event(kind);
     let stepped = loader::step(device, event, request, memory, block, reply);
-    line::print(stepped, memory, block, reply);
+    line::print(rt, stepped, memory, block, reply);
     stepped.device
 }
 
 // The step is lent the request behind the record, and the front of each buffer.
 fn lend(
+    rt: &impl Print,
     lending: Lending,
     tape: &[u8],
     memory: &mut [u8],
@@ -52,6 +55,7 @@ fn lend(
     let b = ends.block;
     let y = ends.reply;
     happen(
+        rt,
         device,
         lending.kind,
         &tape[from..to],
@@ -62,6 +66,7 @@ fn lend(
 }
 
 fn turn(
+    rt: &impl Print,
     before: Lending,
     tape: &[u8],
     memory: &mut [u8],
@@ -70,13 +75,14 @@ fn turn(
 ) -> Lending {
     let lending = scene::after(before, tape);
     scene::paint(tape, memory, block, reply);
-    let device = lend(lending, tape, memory, block, reply);
+    let device = lend(rt, lending, tape, memory, block, reply);
     Lending { device, ..lending }
 }
 
 // How many events there were.
 fn replay(
-    fd: i32,
+    rt: &impl Print,
+    file: &mut Feed,
     tape: &mut [u8],
     memory: &mut [u8],
     block: &mut [u8],
@@ -85,20 +91,27 @@ fn replay(
     let mut lending = scene::empty();
     let mut events = 0;
     let mut count = 0;
-    while count < feed::MOST && record::next(fd, tape) {
-        lending = turn(lending, tape, memory, block, reply);
+    while count < feed::MOST && record::next(file, tape) {
+        lending = turn(rt, lending, tape, memory, block, reply);
         events += record::events(lending.kind);
         count += 1;
     }
     events
 }
 
-fn main() {
+fn main(rt: HostRuntime) {
     let mut tape = [0u8; TAPE_ROOM];
     let mut memory = [0u8; MEMORY_ROOM];
     let mut block = [0u8; scene::OTHERS];
     let mut reply = [0u8; scene::OTHERS];
-    let fd = feed::open();
-    let events = replay(fd, &mut tape, &mut memory, &mut block, &mut reply);
-    feed::finish(fd, b"events #\n", events);
+    let mut file = feed::open(&rt);
+    let events = replay(
+        &rt,
+        &mut file,
+        &mut tape,
+        &mut memory,
+        &mut block,
+        &mut reply,
+    );
+    feed::finish(&rt, file, b"events #\n", events);
 }

@@ -5,6 +5,7 @@ use crate::codes;
 use crate::codes::Spelled;
 use buffer::byte_at;
 use device::Device;
+use feed::Feed;
 use loader::Event;
 use numbers::{pair, quad};
 
@@ -30,8 +31,8 @@ pub const LONGEST: usize = SETUP + 4096;
 
 // Whether another whole record was there. A request is spread out behind its record: the setup, and data that are made
 // up or given.
-pub(crate) fn next(fd: i32, tape: &mut [u8]) -> bool {
-    let end = feed::load(fd, tape, 0, SIZE);
+pub(crate) fn next(file: &mut Feed, tape: &mut [u8]) -> bool {
+    let end = feed::load(file, tape, 0, SIZE);
     let given = byte_at(tape, 12) as usize;
     let count = pair(tape, 10) as usize;
     let seed = byte_at(tape, 13);

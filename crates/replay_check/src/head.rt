@@ -2,6 +2,7 @@
 ghost use Rattle.std.specs.Prelude.{◌≤◌};
 
 use buffer::byte_at;
+use feed::Feed;
 use numbers::pair;
 
 pub const JOB: usize = 48;
@@ -47,8 +48,8 @@ pub struct Chunk {
 }
 
 // Reads a head, if there is another whose first byte is not 0: a 0 ends what the heads are of.
-pub(crate) fn next(fd: i32, head: &mut [u8]) -> bool {
-    feed::next(fd, head) & (byte_at(head, 0) != 0)
+pub(crate) fn next(file: &mut Feed, head: &mut [u8]) -> bool {
+    feed::next(file, head) & (byte_at(head, 0) != 0)
 }
 
 pub(crate) fn job_of(header: &[u8]) -> Job

@@ -1,7 +1,6 @@
 // The line of a job: the verdict's report, and for a refusal the digest of the work area behind it.
 ghost use Rattle.std.specs.Prelude.{◌≤◌};
 
-use libc::STDOUT_FILENO;
 use verdict::Verdict;
 
 // Room for a report.
@@ -30,18 +29,18 @@ fn shown(size: usize, is_refused: bool) -> usize
     size
 }
 
-fn print_digest(is_refused: bool, work: &[u8]) {
+fn print_digest(rt: &impl Print, is_refused: bool, work: &[u8]) {
     if is_refused {
         let d = vectors::digest(work);
-        feed::print(b"\t%%%%\n", &[d / 16777216, d / 65536, d / 256, d]);
+        feed::print(rt, b"\t%%%%\n", &[d / 16777216, d / 65536, d / 256, d]);
     }
 }
 
-pub(crate) fn print(verdict: Verdict, work: &[u8]) {
+pub(crate) fn print(rt: &impl Print, verdict: Verdict, work: &[u8]) {
     let mut line = [0u8; ROOM];
     let done = verdict::report(verdict, &mut line);
     let told = numbers::told(done);
     let is_refused = is_refused(verdict);
-    io::write_all(STDOUT_FILENO, &line[0..shown(told.count, is_refused)]);
-    print_digest(is_refused, work);
+    let _ = rt.write_all(&line[0..shown(told.count, is_refused)]);
+    print_digest(rt, is_refused, work);
 }

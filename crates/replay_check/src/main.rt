@@ -10,6 +10,7 @@ mod text;
 
 ghost use Rattle.std.specs.Prelude.{◌≤◌};
 
+use feed::Feed;
 use head::Job;
 
 // Room for the longest text, image and work area of a job.
@@ -19,13 +20,13 @@ const IMAGE_ROOM: usize = 17000;
 
 const WORK_ROOM: usize = 39000;
 
-fn judge(text: &[u8], image: &[u8], card: &[u8], work: &mut [u8]) {
+fn judge(rt: &impl Print, text: &[u8], image: &[u8], card: &[u8], work: &mut [u8]) {
     let verdict = checker::check(text, image, card, work);
-    line::print(verdict, work);
+    line::print(rt, verdict, work);
 }
 
 // Lends every buffer in the length that the job asks for; the header holds the card. What finds no room has no line.
-fn lend(job: Job, header: &[u8], text: &[u8], image: &[u8], work: &mut [u8])
+fn lend(rt: &impl Print, job: Job, header: &[u8], text: &[u8], image: &[u8], work: &mut [u8])
     requires { 8 ≤ job.card_end }
 {
     let length = job.image;
@@ -41,6 +42,7 @@ fn lend(job: Job, header: &[u8], text: &[u8], image: &[u8], work: &mut [u8])
         return;
     }
     judge(
+        rt,
         text,
         &image[0..length],
         &header[head::CARD..end],
@@ -49,39 +51,53 @@ fn lend(job: Job, header: &[u8], text: &[u8], image: &[u8], work: &mut [u8])
 }
 
 // Makes the image and the work area of a job, and lets the checker judge.
-fn prepare(header: &[u8], text: &[u8], image: &mut [u8], work: &mut [u8]) {
+fn prepare(rt: &impl Print, header: &[u8], text: &[u8], image: &mut [u8], work: &mut [u8]) {
     let job = head::job_of(header);
     vectors::ramp(image, 0, job.image, job.seed, job.factor);
     vectors::ramp(work, 0, job.work, job.work_seed, job.work_step);
-    lend(job, header, text, image, work);
+    lend(rt, job, header, text, image, work);
 }
 
 // The text is judged as given, in mixed letters and in small letters.
-fn play(header: &[u8], text: &mut [u8], image: &mut [u8], work: &mut [u8]) {
-    prepare(header, text, image, work);
+fn play(rt: &impl Print, header: &[u8], text: &mut [u8], image: &mut [u8], work: &mut [u8]) {
+    prepare(rt, header, text, image, work);
     vectors::respell(text, true);
-    prepare(header, text, image, work);
+    prepare(rt, header, text, image, work);
     vectors::respell(text, false);
-    prepare(header, text, image, work);
+    prepare(rt, header, text, image, work);
 }
 
 // How many jobs there were. A header that is no job's ends the file.
-fn replay(fd: i32, header: &mut [u8], text: &mut [u8], image: &mut [u8], work: &mut [u8]) -> usize {
+fn replay(
+    rt: &impl Print,
+    file: &mut Feed,
+    header: &mut [u8],
+    text: &mut [u8],
+    image: &mut [u8],
+    work: &mut [u8],
+) -> usize {
     let mut count = 0;
-    while count < feed::MOST && head::next(fd, header) {
-        let size = text::read(fd, text, work);
-        play(header, &mut text[0..size], image, work);
+    while count < feed::MOST && head::next(file, header) {
+        let size = text::read(file, text, work);
+        play(rt, header, &mut text[0..size], image, work);
         count += 1;
     }
     count
 }
 
-fn main() {
+fn main(rt: HostRuntime) {
     let mut header = [0u8; head::JOB];
     let mut text = [0u8; TEXT_ROOM];
     let mut image = [0u8; IMAGE_ROOM];
     let mut work = [0u8; WORK_ROOM];
-    let fd = feed::open();
-    let count = replay(fd, &mut header, &mut text, &mut image, &mut work);
-    feed::finish(fd, b"jobs #\n", count);
+    let mut file = feed::open(&rt);
+    let count = replay(
+        &rt,
+        &mut file,
+        &mut header,
+        &mut text,
+        &mut image,
+        &mut work,
+    );
+    feed::finish(&rt, file, b"jobs #\n", count);
 }

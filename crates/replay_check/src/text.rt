@@ -3,6 +3,7 @@ ghost use Rattle.std.specs.Prelude.{◌≤◌, length};
 
 use crate::head;
 use crate::head::Chunk;
+use feed::Feed;
 
 // How long the text is by now, and where in it its last literal stands.
 #[derive(Clone, Copy)]
@@ -43,9 +44,9 @@ fn noted(made: Made, literal: u16, size: usize) -> Made {
 }
 
 // The chunk goes behind the text. Of a literal, a ramp and a repetition two have no bytes.
-fn add(fd: i32, made: Made, chunk: Chunk, text: &mut [u8], ramp: &mut [u8]) -> Made {
+fn add(file: &mut Feed, made: Made, chunk: Chunk, text: &mut [u8], ramp: &mut [u8]) -> Made {
     vectors::ramp(ramp, 0, chunk.to, chunk.seed, chunk.factor);
-    let end = feed::load(fd, text, made.size, chunk.literal as usize);
+    let end = feed::load(file, text, made.size, chunk.literal as usize);
     let next = noted(made, chunk.literal, end);
     let count = head::product(next.literal, chunk.again);
     let again = vectors::repeat(text, next.at, next.literal as usize, next.size, count);
@@ -54,7 +55,7 @@ fn add(fd: i32, made: Made, chunk: Chunk, text: &mut [u8], ramp: &mut [u8]) -> M
 }
 
 // Reads the chunks of a text, makes it at the front of `text`, and gives how long it is.
-pub(crate) fn read(fd: i32, text: &mut [u8], ramp: &mut [u8]) -> usize
+pub(crate) fn read(file: &mut Feed, text: &mut [u8], ramp: &mut [u8]) -> usize
     ensures { result ≤ length text.new }
 {
     let mut head = [0u8; head::CHUNK];
@@ -64,8 +65,8 @@ pub(crate) fn read(fd: i32, text: &mut [u8], ramp: &mut [u8]) -> usize
         literal: 0,
     };
     let mut left = feed::MOST;
-    while left > 0 && head::next(fd, &mut head) {
-        made = add(fd, made, head::chunk_of(&head), text, ramp);
+    while left > 0 && head::next(file, &mut head) {
+        made = add(file, made, head::chunk_of(&head), text, ramp);
         left -= 1;
     }
     buffer::least(made.size, text.len())

@@ -7,6 +7,7 @@ mod head;
 
 ghost use Rattle.std.specs.Prelude.{◌≤◌};
 
+use feed::Feed;
 use head::Vector;
 
 // Room for the longest image and the longest buffer of a vector.
@@ -31,14 +32,18 @@ fn scatter(out: &mut [u8], count: usize, seed: u32) {
 }
 
 // What the call answered, and what it left in the whole buffer.
-fn perform(image: &[u8], card: &[u8], out: &mut [u8]) {
+fn perform(rt: &impl Print, image: &[u8], card: &[u8], out: &mut [u8]) {
     let done = plan::plan(image, card, out);
     let told = numbers::told(done);
-    feed::print(b"# # #\n", &[told.number, told.count, vectors::digest(out)]);
+    feed::print(
+        rt,
+        b"# # #\n",
+        &[told.number, told.count, vectors::digest(out)],
+    );
 }
 
 // Lends every buffer in the length that the vector asks for; the head holds the card. What finds no room has no line.
-fn lend(vector: Vector, head: &[u8], image: &[u8], out: &mut [u8])
+fn lend(rt: &impl Print, vector: Vector, head: &[u8], image: &[u8], out: &mut [u8])
     requires { 16 ≤ vector.card_end }
 {
     let size = vector.image;
@@ -53,33 +58,44 @@ fn lend(vector: Vector, head: &[u8], image: &[u8], out: &mut [u8])
     if out.len() < room {
         return;
     }
-    perform(&image[0..size], &head[head::CARD..end], &mut out[0..room]);
+    perform(
+        rt,
+        &image[0..size],
+        &head[head::CARD..end],
+        &mut out[0..room],
+    );
 }
 
 // Makes the image and the output buffer of a vector, and lets it happen.
-fn turn(head: &[u8], image: &mut [u8], out: &mut [u8]) {
+fn turn(rt: &impl Print, head: &[u8], image: &mut [u8], out: &mut [u8]) {
     let vector = head::parse(head);
     vectors::ramp(image, 0, vector.image, vector.first, vector.factor);
     scatter(image, vector.scattered, vector.start);
     vectors::ramp(out, 0, vector.room, vector.seed, 7);
-    lend(vector, head, image, out);
+    lend(rt, vector, head, image, out);
 }
 
 // How many vectors there were.
-fn replay(fd: i32, head: &mut [u8], image: &mut [u8], out: &mut [u8]) -> usize {
+fn replay(
+    rt: &impl Print,
+    file: &mut Feed,
+    head: &mut [u8],
+    image: &mut [u8],
+    out: &mut [u8],
+) -> usize {
     let mut count = 0;
-    while count < feed::MOST && feed::next(fd, head) {
-        turn(head, image, out);
+    while count < feed::MOST && feed::next(file, head) {
+        turn(rt, head, image, out);
         count += 1;
     }
     count
 }
 
-fn main() {
+fn main(rt: HostRuntime) {
     let mut head = [0u8; head::SIZE];
     let mut image = [0u8; IMAGE_ROOM];
     let mut out = [0u8; OUT_ROOM];
-    let fd = feed::open();
-    let count = replay(fd, &mut head, &mut image, &mut out);
-    feed::finish(fd, b"vectors #\n", count);
+    let mut file = feed::open(&rt);
+    let count = replay(&rt, &mut file, &mut head, &mut image, &mut out);
+    feed::finish(&rt, file, b"vectors #\n", count);
 }
