@@ -1,0 +1,30 @@
+-- `plan::block` meets its contract. Assumes nothing.
+use native.Mathlib.Omega.{arith}
+use Prim.Native.Nat.{◌≤◌}
+use Rattle.request.specs.Request.{transfer_bytes}
+use Rattle.plan.proofs.Lines.{padded_at_most}
+use Rattle.plan.proofs.BlockBytes.{block-fits, block-laid}
+use Rattle.plan.proofs.block.Goals as goal
+
+-- a transfer takes a padded byte
+two : 2 ≤ transfer_bytes
+two = omega arith
+
+pub overflow_add-count : goal.overflow_add-count
+overflow_add-count c =
+    let h = padded_at_most _ _ two c.requires.0 in
+    omega arith
+
+pub slice_bounds-send-end : goal.slice_bounds-send-end
+slice_bounds-send-end c =
+    let h = padded_at_most _ _ two c.requires.0 in
+    omega arith
+
+pub send-requires : goal.send-requires
+send-requires c =
+    let h = padded_at_most _ _ two c.requires.0 in
+    block-fits c.args.bytes.now _ _ _ _ c.padded_length-count.ensures (omega arith) c.requires.1
+
+pub returns : goal.returns
+returns c =
+    block-laid _ _ _ _ c.padded_length-count.ensures c.put.ensures c.put-2.ensures _ _ _ _ c.send.ensures
