@@ -5,7 +5,7 @@
 #![tactic(auto)]
 
 mod codes;
-mod line;
+mod output;
 mod record;
 mod scene;
 
@@ -34,7 +34,7 @@ fn happen(
     }
     let event = record::event(kind);
     let stepped = loader::step(device, event, request, memory, block, reply);
-    line::print(rt, stepped, memory, block, reply);
+    output::print(rt, stepped, memory, block, reply);
     stepped.device
 }
 
