@@ -4,9 +4,9 @@
 // what both mean.
 #![tactic(auto)]
 
+mod chunks;
 mod head;
-mod line;
-mod text;
+mod output;
 
 ghost use Rattle.std.specs.Prelude.{◌≤◌};
 
@@ -22,7 +22,7 @@ const WORK_ROOM: usize = 39000;
 
 fn judge(rt: &impl Print, text: &[u8], image: &[u8], card: &[u8], work: &mut [u8]) {
     let verdict = checker::check(text, image, card, work);
-    line::print(rt, verdict, work);
+    output::print(rt, verdict, work);
 }
 
 // Lends every buffer in the length that the job asks for; the header holds the card. What finds no room has no line.
@@ -78,7 +78,7 @@ fn replay(
 ) -> usize {
     let mut count = 0;
     while count < feed::MOST && head::next(file, header) {
-        let size = text::read(file, text, work);
+        let size = chunks::read(file, text, work);
         play(rt, header, &mut text[0..size], image, work);
         count += 1;
     }
