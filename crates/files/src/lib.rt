@@ -150,7 +150,7 @@ fn fill(file: &mut impl Read, buffer: &mut [u8]) -> Got
     came(at)
 }
 
-// Opens the file at a path, or says why it cannot be opened. A path is text.
+// Opens the file at a path, or says why it cannot be opened. The system is asked only for a path that is UTF-8.
 fn open_path<R: Files>(rt: &R, path: &[u8]) -> Result<R::File, Fault> {
     match str::from_utf8(path) {
         Ok(path) => File::open(rt, path).map_err(reason),
