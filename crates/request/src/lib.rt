@@ -28,6 +28,7 @@ pub enum Request {
 }
 
 // Has the request its eight bytes, and then as many as the setup asks for?
+#[tactic(auto, using(crate::proofs::Lengths::fits_short))]
 pub fn fits(request: &[u8]) -> bool
     ensures { result ≡ fits_of request.now }
 {
@@ -67,6 +68,7 @@ impl Setup {
     }
 
     // How many bytes of data follow the setup.
+    #[tactic(auto, unfolding(crate::specs::Setup::data_length))]
     pub fn data_length(self) -> usize
         ensures { result ≡ data_length self }
     {
