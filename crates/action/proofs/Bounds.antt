@@ -1,4 +1,4 @@
--- The action of a well_formed_lem device keeps within memory and block buffer. Assumes nothing.
+-- The action of a well-formed device keeps within memory and block buffer. Assumes nothing.
 use mathlib.Core.Path.{◌≡◌}
 use mathlib.Core.Bool.{Bool, true, false, ◌&&◌}
 use Prim.Native.Nat.{ℕ, ◌+◌, ◌≤◌, ◌<◌}

@@ -1,4 +1,4 @@
--- An event on every board leads from a well_formed_lem state to one. Assumes nothing.
+-- An event on every board leads from a well-formed state to one. Assumes nothing.
 use mathlib.Core.Path.{◌≡◌, refl}
 use mathlib.Core.Bool.{true}
 use mathlib.Core.List.{List}

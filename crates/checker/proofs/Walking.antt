@@ -37,16 +37,16 @@ lowest_end test i e h =
     rw k
 
 -- the three kinds of offset, each with its test; flash begins at place `from`, and the byte has this value and is known or not
-module _ (board : Board) (image : List ℕ) (w : Work) (f from : ℕ) (is_Known : Bool) (value : ℕ) (o : from ≡ flash_from board) (k : is_Known ≡ known w (from + f)) (v : value ≡ get_or w.values (from + f) 0) where
-  pub suspect_image : f < length image → not (is_Known && eqb value (get_or image f 0)) ≡ suspect board image w f
+module _ (board : Board) (image : List ℕ) (w : Work) (f from : ℕ) (is_known : Bool) (value : ℕ) (o : from ≡ flash_from board) (k : is_known ≡ known w (from + f)) (v : value ≡ get_or w.values (from + f) 0) where
+  pub suspect_image : f < length image → not (is_known && eqb value (get_or image f 0)) ≡ suspect board image w f
   unfolding suspect
   suspect_image h = rw (lt-ltb f (length image) h, k, v, o)
 
-  pub suspect-rest : length image ≤ f → f < pages_end board image → not (is_Known && eqb value 0xFF) ≡ suspect board image w f
+  pub suspect-rest : length image ≤ f → f < pages_end board image → not (is_known && eqb value 0xFF) ≡ suspect board image w f
   unfolding suspect
   suspect-rest h b = rw (le-ltb f (length image) h, lt-ltb f (pages_end board image) b, k, v, o)
 
-  pub suspect_other : length image ≤ f → pages_end board image ≤ f → is_Known ≡ suspect board image w f
+  pub suspect_other : length image ≤ f → pages_end board image ≤ f → is_known ≡ suspect board image w f
   unfolding suspect
   suspect_other h b = rw (le-ltb f (length image) h, le-ltb f (pages_end board image) b, k, o)
 

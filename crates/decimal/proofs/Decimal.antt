@@ -41,7 +41,7 @@ last_digit (suc m) h =
     let e : digits_of (suc m) (suc m / 10) ≡ digits_of (suc (suc m / 10)) (suc m / 10) = digits_enough m (suc m / 10) (suc m / 10) a (le_refl (suc m / 10)) in
     digits_open (suc m) (suc m) h ∙ ap (λ (l : List ℕ). l ++ ((48 + suc m % 10) ∷ [])) e
 
--- what holds of the one_digit numbers, and of a number where it holds of all its digits but the last, holds of every number
+-- what holds of the one-digit numbers, and of a number where it holds of all its digits but the last, holds of every number
 by_digits : (P : ℕ → Type 0) → ((n : ℕ) → n < 10 → P n) → ((n : ℕ) → 10 ≤ n → P (n / 10) → P n) → (n : ℕ) → P n
 by_digits P few more n = within n n (le_refl n)
   where

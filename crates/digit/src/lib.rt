@@ -5,6 +5,7 @@ ghost use Rattle.std.specs.Prelude.{◌≡◌, ◌<◌, ltb};
 ghost use Rattle.digit.specs.Digit.{value_of, digit_of, byte_of};
 
 // The digit of the low half of a byte.
+#[tactic(auto, using(crate::proofs::Values::digit_low, crate::proofs::Values::digit_high))]
 pub fn of(byte: u8) -> u8
     ensures { result ≡ digit_of byte }
 {

@@ -35,7 +35,7 @@ size_packed u h =
     let e : suc (length (x.a ++ x.b)) ≡ length (first_line u) / 2 - 1 = omega arith in
     rw (le-ltb (length (first_line u)) 20 l, asks_event x) e)
 
--- a turn at a well_formed_lem line of what is left of a text, as a callee sees it
+-- a turn at a well-formed line of what is left of a text, as a callee sees it
 module _ (t : List ℕ) (at line : ℕ) (more : at < length t) (is : line ≡ line_length (take (length t - at) (drop at t))) (nonzero : line ≡ 0 → ⊥) where
   pub turn_packed : packed_of (events_of (drop at t)) ≡ pack_of (event_of (first_line (drop at t))) ++ packed_of (events_of (drop (at + line) t))
   unfolding packed_of

@@ -46,6 +46,7 @@ fn scan(text: &[u8]) -> Done
 }
 
 // How many bytes the text's events take when packed, or why the text is none.
+#[tactic(auto, using(crate::proofs::Measuring::measure_long))]
 pub fn measure(text: &[u8]) -> Done
     ensures { in_numbers result ≡ in_numbers (measure_of text.now) }
 {

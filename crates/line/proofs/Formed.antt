@@ -24,7 +24,7 @@ use Rattle.laws.proofs.Lists.{same_refl, same_eq, bytes-append}
 use Rattle.line.proofs.FirstLine.{first-spelled}
 use Rattle.line.proofs.CapitalLine.{capital_other, capital_line_stays, event_capital, capital_spelled, Uncapital, uncapital}
 
--- a well_formed_lem line's capital spelling is the line of its event, and this event fits; and what is so is well formed
+-- a well-formed line's capital spelling is the line of its event, and this event fits; and what is so is well formed
 pub formed_fits : (l : List ℕ) → well_spelled l ≡ true → fits (event_of l) ≡ true
 unfolding well_spelled
 formed_fits l h = (and_true (fits (event_of l)) (same (capital_line l) (line_of (event_of l))) h).0
@@ -51,7 +51,7 @@ event_request : (l : List ℕ) → (get_or l 0 0 ≡ 65 → ⊥) → event_of l 
 unfolding event_of
 event_request l n = rw (ne_eqb (get_or l 0 0) 65 n)
 
--- a well_formed_lem line of `A` has LF behind it and no more
+-- a well-formed line of `A` has LF behind it and no more
 pub formed_attach : (l : List ℕ) → well_spelled l ≡ true → get_or l 0 0 ≡ 65 → l ≡ 65 ∷ 10 ∷ []
 unfolding line_of
 formed_attach l h k =
@@ -164,7 +164,7 @@ asks_body q end e = ap all_digits (body_here q end e) ∙ q.spells_b.digits
 pub asks_spells : {u : List ℕ} → (q : Asks u) (end : ℕ) → end ≡ 19 + length q.b * 2 → bytes_of (take (end - 19) (drop 19 u)) ≡ q.b
 asks_spells q end e = ap bytes_of (body_here q end e) ∙ q.spells_b.bytes
 
--- a well_formed_lem line of another kind than `A`: its fields spell bytes, and it is the line of the request that they make
+-- a well-formed line of another kind than `A`: its fields spell bytes, and it is the line of the request that they make
 module _ (l : List ℕ) (formed : well_spelled l ≡ true) (other : get_or l 0 0 ≡ 65 → ⊥) where
   abbrev setup_field : List ℕ
   setup_field = take 16 (drop 2 l)

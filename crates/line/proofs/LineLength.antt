@@ -26,7 +26,7 @@ pub length_bad : (u : List ℕ) → well_spelled (first_line u) ≡ false → 0 
 unfolding line_length
 length_bad u h = rw h
 
--- a length that is not 0 is that of a well_formed_lem line
+-- a length that is not 0 is that of a well-formed line
 pub formed_if : (u : List ℕ) → (line_length u ≡ 0 → ⊥) → well_spelled (first_line u) ≡ true
 formed_if u n = by_bool (well_spelled (first_line u)) (λ h. h) (λ h. absurd (n (sym (length_bad u h))))
 

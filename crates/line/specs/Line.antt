@@ -11,7 +11,7 @@ setup_from = 2
 abbrev pub setup_digits : ℕ
 setup_digits = 16
 
--- the data's behind the next tab, up to the line's last byte, which is the LF of a well_formed_lem line
+-- the data's behind the next tab, up to the line's last byte, which is the LF of a well-formed line
 abbrev pub data_from : ℕ
 data_from = 19
 

@@ -1,4 +1,4 @@
--- A step from a well_formed_lem state leads to one. Assumes nothing.
+-- A step from a well-formed state leads to one. Assumes nothing.
 use mathlib.Core.Path.{refl}
 use mathlib.Core.List.{List}
 use Prim.Native.Nat.{ℕ}

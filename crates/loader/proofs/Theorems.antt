@@ -56,7 +56,7 @@ module _ (board : Board) (d : Device) (e : Event) (q m b y : List ℕ) where
   unfolding admitted_of
   admitted_faultless a = (first_exactly (step_refusals board d e q (sizes_of m b y)) admission.Admitted).0 a
 
-  -- a well_formed_lem state stays well formed, so that no run of events ends in refusal 4
+  -- a well-formed state stays well formed, so that no run of events ends in refusal 4
   pub step_keeps_form : Sound board → well_formed board d ≡ true → well_formed board (step_of board d e q m b y).device ≡ true
   step_keeps_form sound w = well_formed_lem board (step_of board d e q m b y).device (step_form board sound d e q m b y (form_of board d w))
 

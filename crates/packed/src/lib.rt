@@ -32,6 +32,7 @@ fn request_piece(rest: &[u8]) -> usize
 }
 
 // How many bytes the packed event at the front of `rest` takes, or 0 where there is none, or none that is whole.
+#[tactic(auto, using(crate::proofs::PieceLength::no_piece))]
 pub fn piece_length(rest: &[u8]) -> usize
     ensures { (result ≡ piece_length rest.now) × (result ≤ length rest.now) }
 {

@@ -37,6 +37,7 @@ pub const LINE: usize = 2 + FRAME * 2;
 pub const SHORTEST: usize = 1 + FRAME * 2;
 
 // Where the line ends whose digits end at place `end`; 0 where neither LF nor CR LF stands there.
+#[tactic(auto, unfolding(crate::specs::Ways::line_end))]
 fn line_end(rest: &[u8], end: usize) -> usize
     requires { end < length rest.now }
     ensures { result ≡ line_end rest.now end }
@@ -56,6 +57,7 @@ fn line_end(rest: &[u8], end: usize) -> usize
 }
 
 // How long the line at the front of `rest` is, or 0 where it spells no record.
+#[tactic(auto, using(crate::proofs::Spelling::no_mark))]
 fn spelled_length(rest: &[u8]) -> usize
     ensures { result ≡ spelled_length rest.now }
 {
@@ -98,6 +100,7 @@ pub fn word(high: u8, low: u8) -> u16
 
 // Is there no more than the type asks for? Length and offset are all that it says. Data come first: nearly all records
 // are.
+#[tactic(auto, unfolding(crate::specs::Record::suits))]
 fn suits(kind: u8, bytes: u8, offset: u16) -> bool
     ensures { result ≡ suits kind bytes offset }
 {

@@ -53,7 +53,7 @@ module _ (t : List ℕ) (at line : ℕ) (more : at < length t) (is : line ≡ li
   unfolding item_of
   item_bad z = rw (lt-leb (length t) at more, malformed_if (drop at t) (some_left t at more) (sym left_is ∙ z))
 
-  -- a turn at a well_formed_lem line
+  -- a turn at a well-formed line
   module _ (nonzero : line ≡ 0 → ⊥) where
     pub formed : well_spelled (first_line (drop at t)) ≡ true
     formed = formed_if (drop at t) (λ z. nonzero (left_is ∙ z))
