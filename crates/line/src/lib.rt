@@ -58,6 +58,7 @@ fn asking(kind: u8, length: u16) -> Setup
 }
 
 // How long the request's line at the front of `rest` is, or 0 where it is malformed.
+#[tactic(auto, using(crate::proofs::LineLength::no_end))]
 fn request_length(rest: &[u8]) -> usize
     requires { get_or rest.now 0 0 ≡ 81 }
     ensures { result ≡ line_length rest.now }
