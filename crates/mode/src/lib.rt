@@ -7,7 +7,7 @@ ghost use Rattle.mode.specs.Table.{allowed_of};
 
 use request::Request;
 
-#[derive(Clone, Copy)]
+#[derive(Clone, Copy, Debug, PartialEq, Eq)]
 pub enum Mode {
     Idle,
     DownloadSync,
