@@ -9,39 +9,30 @@ ghost use Rattle.buffer.specs.Least.{least_of};
 pub fn least(a: usize, b: usize) -> usize
     ensures { (result ≡ least_of a b) × (result ≤ a) × (result ≤ b) }
 {
-    if a < b { a } else { b }
+    a.min(b)
 }
 
 // The byte at a place, or 0 past the end.
 pub fn byte_at(bytes: &[u8], at: usize) -> u8
     ensures { result ≡ get_or bytes.now at 0 }
 {
-    if bytes.len() <= at {
-        return 0;
-    }
-    bytes[at]
+    bytes.get(at).copied().unwrap_or(0)
 }
 
 // The bytes of `source` go over those of `buffer` from place `at` on.
+#[tactic(auto, unfolding(laws::specs::Bytes::put))]
 pub fn put(buffer: &mut [u8], at: usize, source: &[u8])
     requires { at + length source.now ≤ length buffer.old }
     ensures { buffer.new ≡ put at source.now buffer.old }
 {
-    let mut i = 0;
-    while i < source.len() {
-        buffer[at + i] = source[i];
-        i += 1;
-    }
+    buffer[at..at + source.len()].copy_from_slice(source);
 }
 
 // The bytes of `buffer` from place `from` up to place `to` become `byte`.
+#[tactic(auto, unfolding(laws::specs::Bytes::put, laws::specs::Bytes::filled))]
 pub fn fill(buffer: &mut [u8], from: usize, to: usize, byte: u8)
     requires { (from ≤ to) × (to ≤ length buffer.old) }
     ensures { buffer.new ≡ filled from (to - from) byte buffer.old }
 {
-    let mut i = from;
-    while i < to {
-        buffer[i] = byte;
-        i += 1;
-    }
+    buffer[from..to].fill(byte);
 }
