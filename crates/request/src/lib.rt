@@ -6,7 +6,7 @@ ghost use Rattle.request.specs.Setup.{setup_of, data_length, fits_of};
 ghost use Rattle.request.specs.Request.{request_of, outward_of, inward_of, asks_of, reads_of};
 
 // The setup packet's fields, in the order of its eight bytes.
-#[derive(Clone, Copy)]
+#[derive(Clone, Copy, Debug, PartialEq, Eq)]
 pub struct Setup {
     pub kind: u8,
     pub code: u8,
@@ -16,7 +16,7 @@ pub struct Setup {
 }
 
 // The requests that the loader knows. What is none of them is Unknown.
-#[derive(Clone, Copy)]
+#[derive(Clone, Copy, Debug, PartialEq, Eq)]
 pub enum Request {
     Download,
     Upload,
