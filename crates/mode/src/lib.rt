@@ -39,41 +39,45 @@ impl Mode {
     }
 }
 
-// Is the request taken in this mode? The requests in document 01's order, each by the modes that take it or, where the
-// paper says "all", by those that do not. docs/REQUESTS.md has the answers as a table, printed by `request_table`.
+// Is the request taken in this mode? The requests in document 01's order, each with its column "Modes", by number.
+// The arm names the modes that take it or, where the paper says "all", those that do not. docs/REQUESTS.md has the
+// answers as a table, printed by `request_table`.
 #[tactic(auto, unfolding(crate::specs::Table::allowed_of))]
 pub fn allowed(request: Request, mode: Mode) -> bool
     ensures { result ≡ allowed_of request mode }
 {
     match request {
-        Request::Download => match mode {
-            Mode::Idle | Mode::DownloadIdle => true,
-            _ => false,
-        },
-        Request::Upload => match mode {
-            Mode::Idle | Mode::UploadIdle => true,
-            _ => false,
-        },
-        Request::GetStatus => match mode {
-            Mode::Left | Mode::Rebooting => false,
-            _ => true,
-        },
-        Request::ClearStatus => match mode {
-            Mode::Error => true,
-            _ => false,
-        },
-        Request::GetState => match mode {
-            Mode::DownloadBusy | Mode::Left | Mode::Rebooting => false,
-            _ => true,
-        },
-        Request::Abort => match mode {
-            Mode::Idle
-            | Mode::DownloadSync
-            | Mode::DownloadIdle
-            | Mode::ManifestSync
-            | Mode::UploadIdle => true,
-            _ => false,
-        },
+        Request::Download => {
+            // 2, 5
+            matches!(mode, Mode::Idle | Mode::DownloadIdle)
+        }
+        Request::Upload => {
+            // 2, 9
+            matches!(mode, Mode::Idle | Mode::UploadIdle)
+        }
+        Request::GetStatus => {
+            // all seven
+            !matches!(mode, Mode::Left | Mode::Rebooting)
+        }
+        Request::ClearStatus => {
+            // 10
+            mode == Mode::Error
+        }
+        Request::GetState => {
+            // all but 4
+            !matches!(mode, Mode::DownloadBusy | Mode::Left | Mode::Rebooting)
+        }
+        Request::Abort => {
+            // 2, 3, 5, 6, 9
+            matches!(
+                mode,
+                Mode::Idle
+                    | Mode::DownloadSync
+                    | Mode::DownloadIdle
+                    | Mode::ManifestSync
+                    | Mode::UploadIdle
+            )
+        }
         Request::Unknown => false,
     }
 }
