@@ -14,11 +14,7 @@ use Rattle.board.specs.declared.Board.{Board}
 use Rattle.board.specs.Layout.{memory_bytes}
 use Rattle.request.specs.Request.{transfer_bytes}
 use Rattle.marks.specs.Area.{work_bytes}
-use Rattle.marks.specs.Work.{Work, values_from, marks_from, block_from, work_of, valued, blocked, Sized}
-
--- three lists in one
-abbrev work : List ℕ → List ℕ → List ℕ → Work
-work m k b = record { values = m; marks = k; block = b }
+use Rattle.marks.specs.Work.{Work, values_from, marks_from, block_from, work_of, valued, marked, blocked, Sized}
 
 -- what begins at an offset in a part and ends there is apart from what the part is apart from
 offset_apart : (from count other others at size : ℕ) → at + size ≤ count → Apart from count other others → Apart (from + at) size other others
@@ -91,7 +87,7 @@ module _ (board : Board) (w : List ℕ) (l : length w ≡ work_bytes board) wher
         let room : values_from board + at + length xs ≤ length w = omega (arith, values-room) in
         rw (part_put_in (values_from board) (memory_bytes board) at xs w values-room h, part_put_out (marks_from board) (memory_bytes board) (values_from board + at) xs w marks-room room (offset_apart _ _ _ _ at (length xs) h (values-marks board)), part_put_out (block_from board) transfer_bytes (values_from board + at) xs w block_room room (offset_apart _ _ _ _ at (length xs) h (values-block board)))
 
-    pub marks-put : at + length xs ≤ memory_bytes board → work_of board (put (marks_from board + at) xs w) ≡ work (work_of board w).values (put at xs (work_of board w).marks) (work_of board w).block
+    pub marks-put : at + length xs ≤ memory_bytes board → work_of board (put (marks_from board + at) xs w) ≡ marked (put at xs (work_of board w).marks) (work_of board w)
     unfolding work_of
     marks-put h =
         let room : marks_from board + at + length xs ≤ length w = omega (arith, marks-room) in

@@ -46,6 +46,10 @@ known w i = eqb (get_or w.marks i 0) known_mark
 abbrev pub valued : List ℕ → Work → Work
 valued m w = record { values = m; marks = w.marks; block = w.block }
 
+-- other marks
+abbrev pub marked : List ℕ → Work → Work
+marked k w = record { values = w.values; marks = k; block = w.block }
+
 -- another block
 abbrev pub blocked : List ℕ → Work → Work
 blocked b w = record { values = w.values; marks = w.marks; block = b }
