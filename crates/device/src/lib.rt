@@ -19,6 +19,8 @@ pub enum Pending {
     Write { block: u16, count: u16 },
 }
 
+// The device's state. A status is a number and no enum, here and below: a caller may hand in any state, well formed
+// (`states`) or not, and a number that no device has stays what it is.
 #[derive(Clone, Copy)]
 pub struct Device {
     pub mode: Mode,
@@ -99,8 +101,7 @@ impl Device {
     pub fn stall(self, status: u8) -> Device
         ensures { result ≡ stalled self status }
     {
-        let mode = self.mode;
-        if mode.wire() == 10 {
+        if self.mode == Mode::Error {
             return self.fail(self.status);
         }
         self.fail(status)
@@ -117,21 +118,24 @@ impl Device {
     pub fn waits(self) -> bool
         ensures { result ≡ is_mode 3 self.mode }
     {
-        let mode = self.mode;
-        mode.wire() == 3
+        self.mode == Mode::DownloadSync
     }
 
     // The state after a GETSTATUS, `ran` being what the pending command came to.
+    #[tactic(auto, unfolding(crate::specs::State::after_status))]
     pub fn status(self, ran: Ran) -> Device
         ensures { result ≡ after_status self ran }
     {
-        let mode = self.mode;
-        let wire = mode.wire();
-        match wire {
-            3 => self.finish(ran),
-            4 => self.enter(Mode::DownloadIdle),
-            6 => self.enter(Mode::Left),
-            _ => self,
+        match self.mode {
+            Mode::DownloadSync => self.finish(ran),
+            Mode::DownloadBusy => self.enter(Mode::DownloadIdle),
+            Mode::ManifestSync => self.enter(Mode::Left),
+            Mode::Idle
+            | Mode::DownloadIdle
+            | Mode::UploadIdle
+            | Mode::Error
+            | Mode::Left
+            | Mode::Rebooting => self,
         }
     }
 
@@ -142,40 +146,52 @@ impl Device {
         if ran.status != 0 {
             return self.fail(ran.status);
         }
-        let pointer = ran.pointer;
-        if ran.reboots {
-            return Device {
-                mode: Mode::Rebooting,
-                pointer,
-                pending: Pending::Nothing,
-                ..self
-            };
-        }
+        let mode = if ran.reboots {
+            Mode::Rebooting
+        } else {
+            Mode::DownloadBusy
+        };
         Device {
-            mode: Mode::DownloadBusy,
-            pointer,
+            mode,
+            pointer: ran.pointer,
             pending: Pending::Nothing,
             ..self
         }
     }
 
     // What a GETSTATUS reports.
+    #[tactic(auto, unfolding(crate::specs::State::report_of))]
     pub fn report(self, ran: Ran) -> Report
         ensures { result ≡ report_of self ran }
     {
         let mode = self.mode;
-        let wire = mode.wire();
         let status = self.status;
-        match wire {
-            3 => ran.report(),
-            4 => Report { status, state: 5 },
-            6 => Report { status, state: 7 },
-            _ => Report {
+        match mode {
+            Mode::DownloadSync => ran.report(),
+            Mode::DownloadBusy => Report {
                 status,
-                state: wire,
+                state: Mode::DownloadIdle.wire(),
+            },
+            Mode::ManifestSync => Report {
+                status,
+                state: Report::MANIFEST,
+            },
+            Mode::Idle
+            | Mode::DownloadIdle
+            | Mode::UploadIdle
+            | Mode::Error
+            | Mode::Left
+            | Mode::Rebooting => Report {
+                status,
+                state: mode.wire(),
             },
         }
     }
+}
+
+impl Report {
+    // dfuMANIFEST, which a GETSTATUS reports and the device never stays in.
+    const MANIFEST: u8 = 7;
 }
 
 impl Ran {
@@ -183,13 +199,14 @@ impl Ran {
     fn report(self) -> Report
         ensures { result ≡ ran_report self }
     {
-        let status = self.status;
-        if status != 0 {
-            return Report { status, state: 10 };
-        }
+        let mode = if self.status == 0 {
+            Mode::DownloadBusy
+        } else {
+            Mode::Error
+        };
         Report {
-            status: 0,
-            state: 4,
+            status: self.status,
+            state: mode.wire(),
         }
     }
 }
