@@ -14,26 +14,18 @@ use request::Setup;
 pub fn well_formed(device: Device, board: Board) -> bool
     ensures { result ≡ well_formed board device }
 {
-    let mode = device.mode;
-    let pending = device.pending;
-    if !in_region(board, device.pointer) {
-        return false;
-    }
-    if !pending_fits(mode, pending) {
-        return false;
-    }
-    status_fits(mode, device.status)
+    in_region(board, device.pointer)
+        && pending_fits(device.mode, device.pending)
+        && status_fits(device.mode, device.status)
 }
 
 // Does the address lie in a region?
+#[tactic(auto, unfolding(crate::specs::WellFormed::in_region))]
 pub fn in_region(board: Board, address: u32) -> bool
     ensures { result ≡ in_region board address }
 {
-    let place = board.place(address as u64, 1);
-    match place {
-        Place::Flash(_) => true,
-        Place::Ram(_) => true,
-        Place::Options(_) => true,
+    match board.place(address as u64, 1) {
+        Place::Flash(_) | Place::Ram(_) | Place::Options(_) => true,
         Place::Outside => false,
     }
 }
@@ -42,13 +34,13 @@ pub fn in_region(board: Board, address: u32) -> bool
 fn pending_fits(mode: Mode, pending: Pending) -> bool
     ensures { result ≡ pending_fits mode pending }
 {
-    let sync = mode.wire() == 3;
+    let sync = mode == Mode::DownloadSync;
     match pending {
         Pending::Nothing => !sync,
-        Pending::SetPointer(_) => sync,
-        Pending::ErasePage(_) => sync,
-        Pending::MassErase => sync,
-        Pending::ReadUnprotect => sync,
+        Pending::SetPointer(_)
+        | Pending::ErasePage(_)
+        | Pending::MassErase
+        | Pending::ReadUnprotect => sync,
         Pending::Write { block, count } => sync && write_fits(block, count),
     }
 }
@@ -56,27 +48,18 @@ fn pending_fits(mode: Mode, pending: Pending) -> bool
 fn write_fits(block: u16, count: u16) -> bool
     ensures { result ≡ write_fits block count }
 {
-    if block < 2 {
-        return false;
-    }
-    if count < 1 {
-        return false;
-    }
-    count <= Setup::TRANSFER
+    2 <= block && 1 <= count && count <= Setup::TRANSFER
 }
 
 // Is the status one of the error mode's in the error mode, and 0 elsewhere?
 fn status_fits(mode: Mode, status: u8) -> bool
     ensures { result ≡ status_fits mode status }
 {
-    if mode.wire() != 10 {
+    if mode != Mode::Error {
         return status == 0;
     }
-    match status {
-        Device::TARGET => true,
-        Device::WRITE => true,
-        Device::VENDOR => true,
-        Device::STALLED => true,
-        _ => false,
-    }
+    matches!(
+        status,
+        Device::TARGET | Device::WRITE | Device::VENDOR | Device::STALLED
+    )
 }
