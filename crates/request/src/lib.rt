@@ -28,21 +28,11 @@ pub enum Request {
 }
 
 // Has the request its eight bytes, and then as many as the setup asks for?
-#[tactic(auto, using(crate::proofs::Lengths::fits_short))]
+#[tactic(auto, unfolding(crate::specs::Setup::fits_of, crate::specs::Setup::data_length))]
 pub fn fits(request: &[u8]) -> bool
     ensures { result ≡ fits_of request.now }
 {
-    if request.len() < 8 {
-        return false;
-    }
-    request.len() - 8 == Setup::of(request).data_length()
-}
-
-// Two bytes, low byte first.
-fn pair(low: u8, high: u8) -> u16
-    ensures { result ≡ low + high * 256 }
-{
-    low as u16 + high as u16 * 256
+    8 <= request.len() && request.len() == 8 + Setup::of(request).data_length()
 }
 
 impl Setup {
@@ -50,20 +40,16 @@ impl Setup {
     pub const TRANSFER: u16 = 2048;
 
     // The first eight bytes of a request; bytes that are not there count as 0.
+    #[tactic(auto, unfolding(crate::specs::Setup::setup_of))]
     pub fn of(request: &[u8]) -> Setup
         ensures { result ≡ setup_of request.now }
     {
-        let kind = buffer::byte_at(request, 0);
-        let code = buffer::byte_at(request, 1);
-        let value = pair(buffer::byte_at(request, 2), buffer::byte_at(request, 3));
-        let index = pair(buffer::byte_at(request, 4), buffer::byte_at(request, 5));
-        let length = pair(buffer::byte_at(request, 6), buffer::byte_at(request, 7));
         Setup {
-            kind,
-            code,
-            value,
-            index,
-            length,
+            kind: buffer::byte_at(request, 0),
+            code: buffer::byte_at(request, 1),
+            value: u16::from_le_bytes(buffer::bytes_at(request, 2)),
+            index: u16::from_le_bytes(buffer::bytes_at(request, 4)),
+            length: u16::from_le_bytes(buffer::bytes_at(request, 6)),
         }
     }
 
@@ -73,48 +59,46 @@ impl Setup {
         ensures { result ≡ data_length self }
     {
         if self.kind < 128 {
-            return self.length as usize;
+            usize::from(self.length)
+        } else {
+            0
         }
-        0
     }
 
     // Which request this is, by type, code and fields.
+    #[tactic(auto, unfolding(crate::specs::Request::request_of))]
     pub fn request(self) -> Request
         ensures { result ≡ request_of self }
     {
-        if self.index != 0 {
-            return Request::Unknown;
-        }
-        let kind = self.kind;
-        match kind {
-            0x21 => self.outward(),
-            0xA1 => self.inward(),
+        match (self.kind, self.index) {
+            (0x21, 0) => self.outward(),
+            (0xA1, 0) => self.inward(),
             _ => Request::Unknown,
         }
     }
 
     // The requests from the host to the device.
+    #[tactic(auto, unfolding(crate::specs::Request::outward_of))]
     fn outward(self) -> Request
         ensures { result ≡ outward_of self }
     {
-        let code = self.code;
-        match code {
-            1 => granted(self.length <= Setup::TRANSFER, Request::Download),
-            4 => granted(self.asks(0), Request::ClearStatus),
-            6 => granted(self.asks(0), Request::Abort),
+        match self.code {
+            1 if self.length <= Setup::TRANSFER => Request::Download,
+            4 if self.asks(0) => Request::ClearStatus,
+            6 if self.asks(0) => Request::Abort,
             _ => Request::Unknown,
         }
     }
 
     // The requests that the device answers with data.
+    #[tactic(auto, unfolding(crate::specs::Request::inward_of))]
     fn inward(self) -> Request
         ensures { result ≡ inward_of self }
     {
-        let code = self.code;
-        match code {
-            2 => granted(self.reads(), Request::Upload),
-            3 => granted(self.asks(6), Request::GetStatus),
-            5 => granted(self.asks(1), Request::GetState),
+        match self.code {
+            2 if self.reads() => Request::Upload,
+            3 if self.asks(6) => Request::GetStatus,
+            5 if self.asks(1) => Request::GetState,
             _ => Request::Unknown,
         }
     }
@@ -122,25 +106,12 @@ impl Setup {
     fn asks(self, length: u16) -> bool
         ensures { result ≡ asks_of self length }
     {
-        if self.value != 0 {
-            return false;
-        }
-        self.length == length
+        self.value == 0 && self.length == length
     }
 
     fn reads(self) -> bool
         ensures { result ≡ reads_of self }
     {
-        if self.length < 1 {
-            return false;
-        }
-        self.length <= Setup::TRANSFER
+        (1..=Setup::TRANSFER).contains(&self.length)
     }
-}
-
-// The request, where its fields are as they must be.
-fn granted(fields: bool, request: Request) -> Request
-    ensures { result ≡ cond fields request Request.Unknown }
-{
-    if fields { request } else { Request::Unknown }
 }
