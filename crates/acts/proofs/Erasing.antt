@@ -1,20 +1,16 @@
 -- One turn of each loop that erases pages or clears RAM on every board, its end, and the whole. Assumes nothing.
-use mathlib.Core.Path.{◌≡◌, refl}
-use mathlib.Core.Bool.{true, false}
+use mathlib.Core.Path.{◌≡◌}
+use mathlib.Core.Bool.{false}
 use Prim.Native.Nat.{ℕ, suc, ◌+◌, ◌-◌, ◌≤◌, ◌<◌}
 use native.Mathlib.Omega.{arith}
 use native.Mathlib.Numerals.{add-one}
 use lib.ListN.{replicate}
 use Rattle.board.specs.declared.Board.{Board}
-use Rattle.board.specs.Layout.{page_bytes, page_from, flash_bytes, flash_from}
+use Rattle.board.specs.Layout.{page_bytes, page_from}
 use Rattle.board.specs.Memory.{ram_parts, part_from, part_bytes}
 use Rattle.protection.specs.Protection.{write_protected}
 use Rattle.marks.specs.Work.{Work, learnt}
-use Rattle.cells.specs.Cells.{page_erased, pages_erased, flash_learnt, parts_learnt, ram_learnt}
-
-pub page_kept : (board : Board) (word page : ℕ) (w : Work) → write_protected word page ≡ true → w ≡ page_erased board word page w
-unfolding page_erased
-page_kept board word page w e = rw e
+use Rattle.cells.specs.Cells.{page_erased, pages_erased, parts_learnt, ram_learnt}
 
 pub page_open : (board : Board) (word page : ℕ) (w : Work) → write_protected word page ≡ false → learnt (page_from board page) (replicate (page_bytes board) 0xFF) w ≡ page_erased board word page w
 unfolding page_erased
@@ -31,10 +27,6 @@ unfolding pages_erased
 pages_end_lem board word w page e h =
     let k : e - page ≡ 0 = omega arith in
     rw k
-
-pub flash_whole : (board : Board) (w : Work) → learnt (flash_from board) (replicate (flash_bytes board) 0xFF) w ≡ flash_learnt board w
-unfolding flash_learnt
-flash_whole board w = refl
 
 pub parts_turn : (board : Board) (w : Work) (part e : ℕ) → part < e → parts_learnt board (e - part) part w ≡ parts_learnt board (e - (part + 1)) (part + 1) (learnt (part_from board part) (replicate (part_bytes board part) 0) w)
 unfolding parts_learnt

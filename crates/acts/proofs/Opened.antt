@@ -8,7 +8,7 @@ use native.Mathlib.Nat.{not-suc-le-zero, le_of_suc-le-suc}
 use lib.Dec.{eqb, leb}
 use lib.ListN.{length, take, drop, replicate, length-replicate, length-drop, replicate-append-replicate}
 use lib.Seq.{drop-drop}
-use borrow.Author.Tests.{leb-true, le-leb, lt-leb, not-true}
+use borrow.Author.Tests.{leb-true, not-true}
 use Rattle.laws.specs.Bytes.{put}
 use Rattle.laws.specs.Lists.{all_are}
 use Rattle.laws.proofs.Split.{and_true}
@@ -136,24 +136,6 @@ sure_free board word (suc n) i w s h free =
 -- the span from place `at` up to place `end` lies in flash, and no page is write-protected
 abbrev pub is_open : Board → ℕ → ℕ → ℕ → Bool
 is_open board word at end = leb (flash_from board) at && leb end (flash_from board + flash_bytes board) && not (any_protected word (flash_pages board) 0)
-
--- the test for it
-pub open_before : (board : Board) (word at end from : ℕ) → from ≡ flash_from board → at < from → false ≡ is_open board word at end
-open_before board word at end from f h =
-    let k : at < flash_from board = omega arith in
-    sym (rw (lt-leb (flash_from board) at k))
-
-pub open_past : (board : Board) (word at end from size : ℕ) → from ≡ flash_from board → size ≡ flash_bytes board → from ≤ at → from + size < end → false ≡ is_open board word at end
-open_past board word at end from size f s h g =
-    let k : flash_from board ≤ at = omega arith in
-    let j : flash_from board + flash_bytes board < end = omega arith in
-    sym (rw (le-leb (flash_from board) at k, lt-leb end (flash_from board + flash_bytes board) j))
-
-pub open_pages : (board : Board) (word at end from size pages : ℕ) (any : Bool) → from ≡ flash_from board → size ≡ flash_bytes board → pages ≡ flash_pages board → from ≤ at → end ≤ from + size → any ≡ any_protected word pages 0 → not any ≡ is_open board word at end
-open_pages board word at end from size pages any f s p h g a =
-    let k : flash_from board ≤ at = omega arith in
-    let j : end ≤ flash_from board + flash_bytes board = omega arith in
-    rw (le-leb (flash_from board) at k, le-leb end (flash_from board + flash_bytes board) j, a, p)
 
 -- there
 module _ (board : Board) (word at count : ℕ) (w : Work) (sound : Sound board) (s : Sized board w) (room : at + count ≤ memory_bytes board) (o : is_open board word at (at + count) ≡ true) where

@@ -19,56 +19,22 @@ use action::Action;
 use board::Board;
 use device::Device;
 
-// The protection word of every board.
-fn word_of(board: Board, work: &[u8]) -> u32
-    requires { length work.now ≡ work_bytes board }
-    ensures { result ≡ word_of board (work_of board work.now).values }
-{
-    let values = marks::values_from(board);
-    protection::protection_word(board, &work[values..values + board.memory_bytes()])
-}
-
-// Are the values of `count` bytes from place `at` on those of erased ones, but for those in write-protected pages?
-fn is_blank(board: Board, work: &[u8], word: u32, at: usize, count: usize) -> bool
-    requires { (at + count ≤ memory_bytes board) × (length work.now ≡ work_bytes board) }
-    ensures { result ≡ blank board word at count (work_of board work.now).values }
-{
-    let values = marks::values_from(board);
-    flash::is_blank(
-        board,
-        &work[values..values + board.memory_bytes()],
-        word,
-        at,
-        count,
-    )
-}
-
-// Are all values from place `from` up to place `to` those of erased bytes?
-fn is_erased(board: Board, work: &[u8], from: usize, to: usize) -> bool
-    requires { (from ≤ to) × (to ≤ memory_bytes board) × (length work.now ≡ work_bytes board) }
-    ensures { result ≡ all_are 0xFF (to - from) (drop from (work_of board work.now).values) }
-{
-    let values = marks::values_from(board);
-    compare::all_are(&work[values..values + board.memory_bytes()], from, to, 0xFF)
-}
-
 // Is each of `count` bytes from place `at` on known, but for those in write-protected pages?
+#[tactic(auto, using(crate::proofs::Sureness::sure_turn, crate::proofs::Sureness::sure_end))]
 fn is_sure(board: Board, work: &[u8], word: u32, at: usize, count: usize) -> bool
     requires { (at + count ≤ memory_bytes board) × (length work.now ≡ work_bytes board) }
     ensures { result ≡ sure_from board word count at (work_of board work.now) }
 {
-    let end = at + count;
-    let mut i = at;
-    while i < end {
+    for i in at..at + count {
         if !marks::is_known(board, work, i) && !flash::is_kept(board, word, i) {
             return false;
         }
-        i += 1;
     }
     true
 }
 
 // `count` bytes from place `from` on become this value, and known.
+#[tactic(auto, using(crate::proofs::Learning::filled_learnt))]
 fn fill(board: Board, work: &mut [u8], from: usize, count: usize, value: u8)
     requires { (from + count ≤ memory_bytes board) × (length work.old ≡ work_bytes board) }
     ensures { work_of board work.new ≡ learnt from (replicate count value) (work_of board work.old) }
@@ -79,17 +45,18 @@ fn fill(board: Board, work: &mut [u8], from: usize, count: usize, value: u8)
 }
 
 // A page is erased on every board, unless it is write-protected.
+#[tactic(auto, using(board::proofs::Pages::page_in_memory), unfolding(cells::specs::Cells::page_erased))]
 fn erase(board: Board, work: &mut [u8], word: u32, page: usize)
     requires { Sound board × (length work.old ≡ work_bytes board) × (page < flash_pages board) }
     ensures { work_of board work.new ≡ page_erased board word page (work_of board work.old) }
 {
-    if protection::write_protected(word, page) {
-        return;
+    if !protection::write_protected(word, page) {
+        fill(board, work, board.page_from(page), board.page_bytes(), 0xFF);
     }
-    fill(board, work, board.page_from(page), board.page_bytes(), 0xFF);
 }
 
 // All of the flash is erased on every board.
+#[tactic(auto, unfolding(cells::specs::Cells::flash_learnt))]
 fn erase_flash(board: Board, work: &mut [u8])
     requires { Sound board × (length work.old ≡ work_bytes board) }
     ensures { work_of board work.new ≡ flash_learnt board (work_of board work.old) }
@@ -98,58 +65,51 @@ fn erase_flash(board: Board, work: &mut [u8])
 }
 
 // Every page is erased on every board, unless it is write-protected.
+#[tactic(auto, using(crate::proofs::Erasing::pages_turn, crate::proofs::Erasing::pages_end_lem))]
 fn erase_pages(board: Board, work: &mut [u8], word: u32)
     requires { Sound board × (length work.old ≡ work_bytes board) }
     ensures { work_of board work.new ≡ pages_erased board word (flash_pages board) 0 (work_of board work.old) }
 {
-    let pages = board.flash_pages();
-    let mut page = 0;
-    while page < pages {
+    for page in 0..board.flash_pages() {
         erase(board, work, word, page);
-        page += 1;
     }
 }
 
 // The same; where no page is write-protected, in two long fills.
+#[tactic(auto, using(crate::proofs::Opened::flash_erased_lem, marks::proofs::View::work_sized))]
 fn erase_all(board: Board, work: &mut [u8], word: u32)
     requires { Sound board × (length work.old ≡ work_bytes board) }
     ensures { work_of board work.new ≡ pages_erased board word (flash_pages board) 0 (work_of board work.old) }
 {
     if protection::any_protected(word, board.flash_pages()) {
         erase_pages(board, work, word);
-        return;
+    } else {
+        erase_flash(board, work);
     }
-    erase_flash(board, work);
 }
 
 // The first `count` bytes of the block become the values from place `at` on, but for those in write-protected pages.
+#[tactic(auto, using(crate::proofs::Copying::store_is), unfolding(marks::specs::Work::values_from, marks::specs::Work::block_from))]
 fn store(board: Board, work: &mut [u8], word: u32, at: usize, count: usize)
     requires { (at + count ≤ memory_bytes board) × (count ≤ transfer_bytes) × (length work.old ≡ work_bytes board) }
     ensures { work_of board work.new ≡ valued (stored board word at (take count (work_of board work.old).block) (work_of board work.old).values) (work_of board work.old) }
 {
-    let values = marks::values_from(board);
-    let block = marks::block_from(board);
-    let mut i = 0;
-    while i < count {
-        if !flash::is_kept(board, word, at + i) {
-            work[values + (at + i)] = work[block + i];
-        }
-        i += 1;
-    }
+    let (front, block) = work.split_at_mut(marks::block_from(board));
+    let from = marks::values_from(board);
+    let values = &mut front[from..from + board.memory_bytes()];
+    flash::store(board, values, word, at, &block[..count]);
 }
 
 // The same with no page write-protected.
+#[tactic(auto, using(crate::proofs::Copying::copy_is), unfolding(marks::specs::Work::values_from, marks::specs::Work::block_from))]
 fn copy(board: Board, work: &mut [u8], at: usize, count: usize)
     requires { (at + count ≤ memory_bytes board) × (count ≤ transfer_bytes) × (length work.old ≡ work_bytes board) }
     ensures { work_of board work.new ≡ valued (put at (take count (work_of board work.old).block) (work_of board work.old).values) (work_of board work.old) }
 {
-    let values = marks::values_from(board);
-    let block = marks::block_from(board);
-    let mut i = 0;
-    while i < count {
-        work[values + (at + i)] = work[block + i];
-        i += 1;
-    }
+    let (front, block) = work.split_at_mut(marks::block_from(board));
+    let from = marks::values_from(board);
+    let values = &mut front[from..from + board.memory_bytes()];
+    values[at..at + count].copy_from_slice(&block[..count]);
 }
 
 // Do the bytes from place `at` up to place `end` lie in flash, and is no page write-protected?
@@ -158,24 +118,19 @@ fn is_open(board: Board, word: u32, at: usize, end: usize) -> bool
     ensures { result ≡ leb (flash_from board) at && leb end (flash_from board + flash_bytes board) && not (any_protected word (flash_pages board) 0) }
 {
     let from = board.flash_from();
-    if at < from {
-        return false;
-    }
-    if from + board.flash_bytes() < end {
-        return false;
-    }
-    !protection::any_protected(word, board.flash_pages())
+    from <= at
+        && end <= from + board.flash_bytes()
+        && !protection::any_protected(word, board.flash_pages())
 }
 
 // A write to flash that spares write-protected pages: on every board, or on some board an error.
+#[tactic(auto, unfolding(cells::specs::Cells::surely))]
 fn write_sparing(board: Board, work: &mut [u8], word: u32, at: usize, count: usize) -> u8
     requires { (at + count ≤ memory_bytes board) × (count ≤ transfer_bytes) × (length work.old ≡ work_bytes board) }
     ensures { worked result (work_of board work.new) ≡ writes board word at count (work_of board work.old) }
 {
-    if !is_blank(board, work, word, at, count) {
-        return Device::WRITE;
-    }
-    if !is_sure(board, work, word, at, count) {
+    let blank = flash::is_blank(board, marks::values(board, work), word, at, count);
+    if !blank || !is_sure(board, work, word, at, count) {
         return Device::WRITE;
     }
     store(board, work, word, at, count);
@@ -183,6 +138,7 @@ fn write_sparing(board: Board, work: &mut [u8], word: u32, at: usize, count: usi
 }
 
 // The same; where no page is write-protected, none is asked for at each byte.
+#[tactic(auto, using(crate::proofs::Opened::blank_there, crate::proofs::Opened::sure_there, crate::proofs::Opened::stored_there, marks::proofs::View::work_sized), unfolding(cells::specs::Cells::surely))]
 fn write(board: Board, work: &mut [u8], word: u32, at: usize, count: usize) -> u8
     requires { Sound board × (at + count ≤ memory_bytes board) × (count ≤ transfer_bytes) × (length work.old ≡ work_bytes board) }
     ensures { worked result (work_of board work.new) ≡ writes board word at count (work_of board work.old) }
@@ -191,10 +147,8 @@ fn write(board: Board, work: &mut [u8], word: u32, at: usize, count: usize) -> u
     if !is_open(board, word, at, end) {
         return write_sparing(board, work, word, at, count);
     }
-    if !is_erased(board, work, at, end) {
-        return Device::WRITE;
-    }
-    if !marks::all_known(board, work, at, end) {
+    let erased = compare::all_are(marks::values(board, work), at, end, 0xFF);
+    if !erased || !marks::all_known(board, work, at, end) {
         return Device::WRITE;
     }
     copy(board, work, at, count);
@@ -202,6 +156,7 @@ fn write(board: Board, work: &mut [u8], word: u32, at: usize, count: usize) -> u
 }
 
 // A write to RAM or options.
+#[tactic(auto, using(crate::proofs::Learning::block_learnt, marks::proofs::View::work_sized))]
 fn keep(board: Board, work: &mut [u8], at: usize, count: usize)
     requires { (at + count ≤ memory_bytes board) × (count ≤ transfer_bytes) × (length work.old ≡ work_bytes board) }
     ensures { work_of board work.new ≡ learnt at (take count (work_of board work.old).block) (work_of board work.old) }
@@ -210,34 +165,25 @@ fn keep(board: Board, work: &mut [u8], at: usize, count: usize)
     marks::learn(board, work, at, at + count);
 }
 
-// A part of the RAM becomes zero and known.
-fn clear_part(board: Board, work: &mut [u8], part: usize)
-    requires { (part_from board part + part_bytes board part ≤ memory_bytes board) × (length work.old ≡ work_bytes board) }
-    ensures { work_of board work.new ≡ learnt (part_from board part) (replicate (part_bytes board part) 0) (work_of board work.old) }
-{
-    fill(
-        board,
-        work,
-        board.part_from(part),
-        board.part_bytes(part),
-        0,
-    );
-}
-
 // The RAM becomes zero and known, part by part.
+#[tactic(auto, using(crate::proofs::Erasing::parts_turn, crate::proofs::Erasing::parts_end, crate::proofs::Erasing::parts_whole))]
 fn clear_ram(board: Board, work: &mut [u8])
     requires { Sound board × (length work.old ≡ work_bytes board) }
     ensures { work_of board work.new ≡ ram_learnt board (work_of board work.old) }
 {
-    let parts = board.ram_parts();
-    let mut part = 0;
-    while part < parts {
-        clear_part(board, work, part);
-        part += 1;
+    for part in 0..board.ram_parts() {
+        fill(
+            board,
+            work,
+            board.part_from(part),
+            board.part_bytes(part),
+            0,
+        );
     }
 }
 
 // The default options, known.
+#[tactic(auto, using(crate::proofs::Learning::options_learnt))]
 fn reset_options(board: Board, work: &mut [u8])
     requires { Sound board × (length work.old ≡ work_bytes board) }
     ensures { work_of board work.new ≡ learnt (options_from board) defaults (work_of board work.old) }
@@ -258,16 +204,16 @@ fn unprotect(board: Board, work: &mut [u8])
     reset_options(board, work);
 }
 
-// An action on every board; the answer is its status.
+// An action on every board; the answer is its status. `perform` has the same arms over one board's memory: a trait over
+// both would want a method, a ghost word and a law for each of them, which is more than the match.
 pub fn act(board: Board, action: Action, work: &mut [u8]) -> u8
     requires { Sound board × (length work.old ≡ work_bytes board) × Fits board action }
     ensures { worked result (work_of board work.new) ≡ worked_of board action (work_of board work.old) }
 {
-    let word = word_of(board, work);
+    let word = protection::protection_word(board, marks::values(board, work));
     match action {
-        Action::Rest => 0,
+        Action::Rest | Action::Point(_) => 0,
         Action::Fail(status) => status,
-        Action::Point(_) => 0,
         Action::Erase(page) => {
             erase(board, work, word, page);
             0
@@ -285,11 +231,7 @@ pub fn act(board: Board, action: Action, work: &mut [u8]) -> u8
             0
         }
         Action::StoreFlash { at, count } => write(board, work, word, at, count as usize),
-        Action::StoreRam { at, count } => {
-            keep(board, work, at, count as usize);
-            0
-        }
-        Action::StoreOptions { at, count } => {
+        Action::StoreRam { at, count } | Action::StoreOptions { at, count } => {
             keep(board, work, at, count as usize);
             0
         }
