@@ -1,6 +1,6 @@
 -- Laws of `spans` and `place_of`: the tests that decide a span, and where a placed span ends. Assumes nothing.
-use mathlib.Core.Path.{◌≡◌, refl, ap, ◌∙◌}
-use mathlib.Core.Bool.{true, false}
+use mathlib.Core.Path.{◌≡◌, ap, ◌∙◌}
+use mathlib.Core.Bool.{true}
 use Prim.Native.Nat.{ℕ, ◌+◌, ◌-◌, ◌≤◌, ◌<◌}
 use native.Mathlib.Omega.{arith}
 use native.Mathlib.Nat.{add-zero}
@@ -17,16 +17,6 @@ use Rattle.board.specs.Memory.{ram_parts, part_from, part_bytes}
 use Rattle.board.specs.Span.{spans, place_of}
 use Rattle.board.specs.Sound.{Sound}
 use Rattle.board.proofs.Pages.{flash_has_two}
-
-pub spans_below : (first bytes address count : ℕ) → address < first → spans first bytes address count ≡ false
-unfolding spans
-spans_below first bytes address count h = rw (lt-leb first address h)
-
-pub spans_past : (first bytes address count : ℕ) → first ≤ address → bytes < address - first → spans first bytes address count ≡ false
-unfolding spans
-spans_past first bytes address count h k =
-    let far : bytes < address - first + count = omega arith in
-    rw (le-leb first address h, lt-leb (address - first + count) bytes far)
 
 pub spans-room : (first bytes address count : ℕ) → first ≤ address → address - first ≤ bytes → spans first bytes address count ≡ leb count (bytes - (address - first))
 unfolding spans
@@ -45,23 +35,9 @@ spans-ends first bytes address count e =
     let p = and_true (leb first address) (leb (address - first + count) bytes) e in
     (leb-true _ _ p.0, leb-true _ _ p.1)
 
--- the four answers of `place_of`, each from the tests that lead to it; `bytes` is what the board's flash has
-module _ (board : Board) (bytes address count : ℕ) (size : bytes ≡ flash_bytes board) where
-  pub place_flash : spans (flash_first board) bytes address count ≡ true → place_of board address count ≡ Flash (flash_from board + (address - flash_first board))
-  unfolding place_of
-  place_flash f = rw (← size, f)
-
-  pub place_ram : (from : ℕ) → from ≡ ram_from board → spans (flash_first board) bytes address count ≡ false → spans (ram_first board) (ram_bytes board) address count ≡ true → place_of board address count ≡ Ram (from + (address - ram_first board))
-  unfolding place_of
-  place_ram from e f r = rw (e, ← size, f, r)
-
-  pub place-options : (from : ℕ) → from ≡ options_from board → spans (flash_first board) bytes address count ≡ false → spans (ram_first board) (ram_bytes board) address count ≡ false → spans (options_first board) option_bytes address count ≡ true → place_of board address count ≡ Options (from + (address - options_first board))
-  unfolding place_of
-  place-options from e f r o = rw (e, ← size, f, r, o)
-
-  pub place_outside : spans (flash_first board) bytes address count ≡ false → spans (ram_first board) (ram_bytes board) address count ≡ false → spans (options_first board) option_bytes address count ≡ false → place_of board address count ≡ Outside
-  unfolding place_of
-  place_outside f r o = rw (← size, f, r, o)
+place_flash : (board : Board) (address count : ℕ) → spans (flash_first board) (flash_bytes board) address count ≡ true → place_of board address count ≡ Flash (flash_from board + (address - flash_first board))
+unfolding place_of
+place_flash board address count f = rw f
 
 -- a place keeps its `count` bytes within its region
 abbrev pub Lies : Board → ℕ → Place → Type 0
@@ -122,7 +98,7 @@ spans-within first bytes offset count h =
 pub flash_placed : (board : Board) (offset count : ℕ) → offset + count ≤ flash_bytes board → place_of board (flash_first board + offset) count ≡ Flash (flash_from board + offset)
 flash_placed board offset count h =
     let back : flash_first board + offset - flash_first board ≡ offset = omega arith in
-    place_flash board (flash_bytes board) (flash_first board + offset) count refl (spans-within (flash_first board) (flash_bytes board) offset count h) ∙ ap (λ (k : ℕ). Flash (flash_from board + k)) back
+    place_flash board (flash_first board + offset) count (spans-within (flash_first board) (flash_bytes board) offset count h) ∙ ap (λ (k : ℕ). Flash (flash_from board + k)) back
 
 -- and so does the first flash address
 pub first_placed : (board : Board) → Sound board → place_of board (flash_first board) 1 ≡ Flash (flash_from board)

@@ -1,4 +1,4 @@
--- Laws of `stretch_at`: its answers, each from the tests that lead to it, and that a stretch ends behind its places. Assumes nothing.
+-- A law of `stretch_at`: a stretch ends behind its places. Assumes nothing.
 use mathlib.Core.Path.{◌≡◌, refl, ◌∙◌, sym}
 use mathlib.Core.Bool.{true, false, true≢false}
 use Prim.Native.Nat.{ℕ, ◌+◌, ◌-◌, ◌*◌, ◌/◌, ◌≤◌, ◌<◌}
@@ -7,39 +7,20 @@ use native.Mathlib.Nat.{div-mul-le_self, lt-div-mul-add}
 use borrow.Author.Tests.{le-leb}
 use Rattle.laws.proofs.Split.{by_bool, by_lt}
 use Rattle.board.specs.declared.Board.{Board}
-use Rattle.board.specs.declared.Place.TheVariants.{Flash, Ram, Options, Outside}
-use Rattle.board.specs.Layout.{flash_pages, page_bytes, page_offset, page_from, page_at, flash_first, flash_bytes, flash_from, ram_first, ram_bytes, ram_from, options_first, option_bytes, options_from, memory_bytes}
+use Rattle.board.specs.Layout.{flash_pages, page_bytes, page_offset, page_from, page_at, flash_bytes, flash_from, ram_bytes, ram_from, option_bytes, options_from, memory_bytes}
 use Rattle.board.specs.Memory.{stretch_at}
 use Rattle.board.specs.Span.{spans}
 use Rattle.board.proofs.Span.{spans-ends, spans-room}
 
--- the four answers of `stretch_at`, and what ends where; `ram` and `options` are where the code found them
-module _ (board : Board) (place : ℕ) where
-  -- a place in flash lies in one of its pages, and before the next
-  pub flash_page : (bytes : ℕ) → bytes ≡ flash_bytes board → spans (flash_from board) bytes place 1 ≡ true → (page_at board place + 1 ≤ flash_pages board) × (place < page_from board (page_at board place + 1))
-  unfolding flash_from flash_bytes page_at page_offset flash_pages page_bytes
-  flash_page bytes size f =
-      let e = spans-ends _ _ _ _ f in
-      let some : 0 < page_bytes board = omega arith in
-      let low : (place - flash_from board) / page_bytes board * page_bytes board ≤ place - flash_from board = div-mul-le_self (place - flash_from board) (page_bytes board) in
-      let high : place - flash_from board < (place - flash_from board) / page_bytes board * page_bytes board + page_bytes board = lt-div-mul-add some in
-      (omega arith, omega arith)
-
-  pub stretch_flash : (bytes end : ℕ) → bytes ≡ flash_bytes board → end ≡ page_from board (page_at board place + 1) → spans (flash_from board) bytes place 1 ≡ true → stretch_at board place ≡ record { region = Flash place; end = end; address = flash_first board + (place - flash_from board) }
-  unfolding stretch_at
-  stretch_flash bytes end size e f = rw (← size, ← e, f)
-
-  pub stretch_ram : (bytes ram : ℕ) → bytes ≡ flash_bytes board → ram ≡ ram_from board → spans (flash_from board) bytes place 1 ≡ false → spans ram (ram_bytes board) place 1 ≡ true → stretch_at board place ≡ record { region = Ram place; end = ram + ram_bytes board; address = ram_first board + (place - ram) }
-  unfolding stretch_at
-  stretch_ram bytes ram size e f r = rw (← size, ← e, f, r)
-
-  pub stretch_options : (bytes ram options : ℕ) → bytes ≡ flash_bytes board → ram ≡ ram_from board → options ≡ options_from board → spans (flash_from board) bytes place 1 ≡ false → spans ram (ram_bytes board) place 1 ≡ false → spans options option_bytes place 1 ≡ true → stretch_at board place ≡ record { region = Options place; end = options + option_bytes; address = options_first board + (place - options) }
-  unfolding stretch_at
-  stretch_options bytes ram options size e o f r h = rw (← size, ← e, ← o, f, r, h)
-
-  pub stretch_outside : (bytes ram options : ℕ) → bytes ≡ flash_bytes board → ram ≡ ram_from board → options ≡ options_from board → spans (flash_from board) bytes place 1 ≡ false → spans ram (ram_bytes board) place 1 ≡ false → spans options option_bytes place 1 ≡ false → stretch_at board place ≡ record { region = Outside; end = place; address = 0 }
-  unfolding stretch_at
-  stretch_outside bytes ram options size e o f r h = rw (← size, ← e, ← o, f, r, h)
+-- a place in flash lies in one of its pages, and before the next
+flash_page : (board : Board) (place bytes : ℕ) → bytes ≡ flash_bytes board → spans (flash_from board) bytes place 1 ≡ true → (page_at board place + 1 ≤ flash_pages board) × (place < page_from board (page_at board place + 1))
+unfolding flash_from flash_bytes page_at page_offset flash_pages page_bytes
+flash_page board place bytes size f =
+    let e = spans-ends _ _ _ _ f in
+    let some : 0 < page_bytes board = omega arith in
+    let low : (place - flash_from board) / page_bytes board * page_bytes board ≤ place - flash_from board = div-mul-le_self (place - flash_from board) (page_bytes board) in
+    let high : place - flash_from board < (place - flash_from board) / page_bytes board * page_bytes board + page_bytes board = lt-div-mul-add some in
+    (omega arith, omega arith)
 
 -- a place that the tests leave over lies outside of memory
 unheld : (from bytes place : ℕ) → from ≤ place → spans from bytes place 1 ≡ false → from + bytes ≤ place

@@ -1,6 +1,8 @@
 // The board: where its regions lie in the address space and in the memory buffer, and which span of addresses lies
 // where. Who asks a board gets its numbers from the methods; that they are constants is known here alone.
-#![tactic(auto)]
+//
+// The line below opens the definitions that the promises here name: the check then finds every proof.
+#![tactic(auto, unfolding(crate::specs::Layout::flash_pages, crate::specs::Layout::page_bytes, crate::specs::Layout::page_offset, crate::specs::Layout::flash_bytes, crate::specs::Layout::flash_first, crate::specs::Layout::flash_from, crate::specs::Layout::ram_first, crate::specs::Layout::ram_bytes, crate::specs::Layout::ram_from, crate::specs::Layout::options_first, crate::specs::Layout::options_from, crate::specs::Layout::memory_bytes, crate::specs::Layout::page_at, crate::specs::Layout::pages_of, crate::specs::Layout::page_rest, crate::specs::Memory::ram_parts, crate::specs::Memory::part_from, crate::specs::Memory::part_bytes, crate::specs::Memory::stretch_at, crate::specs::Span::spans, crate::specs::Span::in_flash, crate::specs::Span::place_of))]
 
 ghost use Rattle.std.specs.Prelude.{◌≡◌, ◌≤◌, ◌<◌, length};
 ghost use Rattle.board.specs.Layout.{flash_pages, page_bytes, page_offset, page_from, page_at, pages_of, page_rest, flash_bytes, flash_first, flash_from, ram_from, options_first, options_from, memory_bytes, defaults};
@@ -101,13 +103,13 @@ impl Board {
     fn ram_from(self) -> usize
         ensures { (result ≡ ram_from self) × (result < 0x100000000) }
     {
-        self.pages as usize * Board::PAGE
+        self.flash_bytes()
     }
 
     pub fn options_from(self) -> usize
         ensures { (result ≡ options_from self) × (result < 0x100000000) }
     {
-        self.pages as usize * Board::PAGE + Board::RAM_BYTES
+        self.flash_bytes() + Board::RAM_BYTES
     }
 
     pub fn options_first(self) -> u32
@@ -119,7 +121,7 @@ impl Board {
     pub fn memory_bytes(self) -> usize
         ensures { (result ≡ memory_bytes self) × (result < 0x100000000) }
     {
-        self.pages as usize * Board::PAGE + Board::RAM_BYTES + Board::OPTION_BYTES
+        self.options_from() + Board::OPTION_BYTES
     }
 
     // The offset in flash at which a page begins.
@@ -135,24 +137,21 @@ impl Board {
         requires { page ≤ flash_pages self }
         ensures { result ≡ page_from self page }
     {
-        Board::FLASH_FROM + page * Board::PAGE
+        Board::FLASH_FROM + self.page_offset(page)
     }
 
     // The page that holds this place of the memory buffer, if it is one of flash.
     pub fn page_at(self, place: usize) -> usize
         ensures { result ≡ page_at self place }
     {
-        if place < Board::FLASH_FROM {
-            return 0;
-        }
-        (place - Board::FLASH_FROM) / Board::PAGE
+        place.saturating_sub(Board::FLASH_FROM) / Board::PAGE
     }
 
     // How many pages an image takes.
     pub fn pages_of(self, image: &[u8]) -> usize
         ensures { result ≡ pages_of self (length image.now) }
     {
-        (image.len() + (Board::PAGE - 1)) / Board::PAGE
+        image.len().div_ceil(Board::PAGE)
     }
 
     // How many of so many bytes are left behind the last whole page.
@@ -186,7 +185,7 @@ impl Board {
     pub fn unfit(self, image: usize) -> bool
         ensures { result ≡ unfit self image }
     {
-        (image == 0) | (self.flash_bytes() < image)
+        image == 0 || self.flash_bytes() < image
     }
 
     // The refusals of an image and a card of these lengths, in their order.
@@ -269,12 +268,11 @@ impl Board {
 fn within(first: u32, bytes: usize, address: u64, count: u64) -> bool
     ensures { result ≡ spans first bytes address count }
 {
-    if address < first as u64 {
+    let Some(offset) = address.checked_sub(first as u64) else {
         return false;
-    }
-    let offset = address - first as u64;
-    if (bytes as u64) < offset {
+    };
+    let Some(room) = (bytes as u64).checked_sub(offset) else {
         return false;
-    }
-    count <= bytes as u64 - offset
+    };
+    count <= room
 }
