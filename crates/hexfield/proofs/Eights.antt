@@ -9,10 +9,12 @@ use lib.Seq.{length-take-le, take_at, drop_at, drop-append-add, drop-drop, take-
 use Rattle.laws.specs.Bytes.{put}
 use Rattle.laws.proofs.Bytes.{sets-put, put-length}
 use Rattle.laws.proofs.Append.{put_behind}
-use Rattle.digit.specs.Digit.{value_of, byte_of}
+use Rattle.digit.specs.Digit.{byte_of}
 use Rattle.hexfield.specs.Hex.{all_digits, bytes_of}
-use Rattle.hexfield.proofs.Fields.{bytes-length, bytes_of_take, bytes_of_drop, byte_of_lem, digit_at, digits_take, digits_drop}
-use Rattle.hexfield.proofs.Looking.{part_length, part_is}
+use Rattle.hexfield.proofs.Parts.{length-first_chunks, part_at}
+use Rattle.hexfield.proofs.Fields.{bytes-length, bytes_of_take, bytes_of_drop, byte_of_lem, digits_take, digits_drop}
+use Rattle.std.specs.Simd.{first_chunks}
+use Rattle.std.proofs.lemmas.List.{take-take, drop-take}
 
 -- nothing laid, and bytes laid over no more bytes at the same place
 pub put-none : (at : ℕ) (m : List ℕ) → at ≤ length m → m ≡ put at [] m
@@ -41,7 +43,7 @@ put_twice j zs ys m h room =
     ap₂ (λ (x : List ℕ) (y : List ℕ). x ++ ys ++ y) front back
 
 -- a part that reaches to the end is laid over what was laid before
-put_over_part : (at last i : ℕ) (xs m : List ℕ) → last ≤ i → i ≤ length xs → at + length xs ≤ length m → put (at + last) (drop last xs) (put at (take i xs) m) ≡ put at xs m
+pub put_over_part : (at last i : ℕ) (xs m : List ℕ) → last ≤ i → i ≤ length xs → at + length xs ≤ length m → put (at + last) (drop last xs) (put at (take i xs) m) ≡ put at xs m
 put_over_part at last i xs m h k room =
     let n = i - last in
     let e : i ≡ last + n = omega arith in
@@ -58,55 +60,61 @@ put_over_part at last i xs m h k room =
     ∙ put_behind at (at + last) (take last xs) (drop last xs) m j (omega arith)
     ∙ ap (λ (l : List ℕ). put at l m) (take-append-drop last xs)
 
--- eight bytes of a field, by the sixteen digits that spell them
-module _ (ds : List ℕ) (i : ℕ) where
-  pub part_bytes : bytes_of (take (i * 2 + 16 - i * 2) (drop (i * 2) ds)) ≡ take 8 (drop i (bytes_of ds))
-  part_bytes =
-      ap bytes_of (part_is ds (i * 2) 16)
-      ∙ bytes_of_take 8 (drop (i * 2) ds)
-      ∙ ap (take 8) (bytes_of_drop i ds)
+-- n bytes laid behind those that were laid before
+pub put_next : (at j n k : ℕ) (xs bytes m m₀ : List ℕ) → k ≡ j + n → k ≤ length xs → at + length xs ≤ length m₀ → bytes ≡ take n (drop j xs) → m ≡ put at (take j xs) m₀ → put (at + j) bytes m ≡ put at (take k xs) m₀
+put_next at j n k xs bytes m m₀ next fit room is inv =
+    let a : length (take j xs) ≡ j = length-take-le j xs (omega arith) in
+    let d : length (drop j xs) ≡ length xs - j = length-drop j xs in
+    let b : length (take n (drop j xs)) ≡ n = length-take-le n (drop j xs) (omega arith) in
+    let e : at + j ≡ at + length (take j xs) = omega arith in
+    ap₂ (put (at + j)) is inv
+    ∙ put_behind at (at + j) (take j xs) (take n (drop j xs)) m₀ e (omega arith)
+    ∙ ap (λ (l : List ℕ). put at l m₀) (sym (take-add j n xs) ∙ ap (λ (i : ℕ). take i xs) (sym next))
 
-  pub part_digits : all_digits ds ≡ true → all_digits (take (i * 2 + 16 - i * 2) (drop (i * 2) ds)) ≡ true
-  part_digits h = ap all_digits (part_is ds (i * 2) 16) ∙ digits_take 16 (drop (i * 2) ds) (digits_drop (i * 2) ds h)
+-- sixteen digits of a field, and the eight bytes that they spell
+module _ (ds : List ℕ) (parts : List (List ℕ)) (i n : ℕ) (p : parts ≡ first_chunks 16 (length (take n ds) / 16) (take n ds)) (long : n ≤ length ds) (more : i < length parts) where
+  sixteen_fit : i * 16 + 16 ≤ n
+  sixteen_fit =
+      let l : length (take n ds) ≡ n = length-take-le n ds long in
+      let k = length (take n ds) / 16 in
+      omega (arith, ap length p, length-first_chunks 16 k (take n ds))
 
--- they are eight
-pub part_eight : (ds bytes : List ℕ) (i : ℕ) → bytes ≡ bytes_of (take (i * 2 + 16 - i * 2) (drop (i * 2) ds)) → i + 8 ≤ length ds / 2 → length bytes ≡ 8
-part_eight ds bytes i is fit =
-    let room : i * 2 + 16 ≤ length ds = omega arith in
-    let l = part_length ds (i * 2) 16 room in
-    let p = take (i * 2 + 16 - i * 2) (drop (i * 2) ds) in
-    let c = bytes-length p in
-    let e : length (bytes_of p) ≡ 8 = omega arith in
-    ap length is ∙ e
+  sixteen_at : get_or parts i [] ≡ take 16 (drop (i * 8 * 2) ds)
+  sixteen_at =
+      let k = length (take n ds) / 16 in
+      let h : i < k = omega (arith, ap length p, length-first_chunks 16 k (take n ds)) in
+      let m = n - i * 16 in
+      let fit = sixteen_fit in
+      let e : n ≡ i * 16 + m = omega arith in
+      let f : 16 ≤ m = omega arith in
+      let g : i * 16 ≡ i * 8 * 2 = omega arith in
+      ap (λ (l : List (List ℕ)). get_or l i []) p
+      ∙ part_at 16 k i (take n ds) h
+      ∙ ap (λ (x : ℕ). take 16 (drop (i * 16) (take x ds))) e
+      ∙ ap (take 16) (drop-take (i * 16) m ds)
+      ∙ take-take 16 m (drop (i * 16) ds) f
+      ∙ ap (λ (x : ℕ). take 16 (drop x ds)) g
 
--- a turn of the loop that reads eight bytes at a time, and its end with the last eight
-module _ (ds m m₀ bytes : List ℕ) (at i : ℕ) (room : at + length ds / 2 ≤ length m₀) (is : bytes ≡ bytes_of (take (i * 2 + 16 - i * 2) (drop (i * 2) ds))) (fit : i + 8 ≤ length ds / 2) where
-  pub eight_turn : m ≡ put at (take i (bytes_of ds)) m₀ → put (at + i) bytes m ≡ put at (take (i + 8) (bytes_of ds)) m₀
-  eight_turn inv =
-      let xs = bytes_of ds in
-      let c : length xs ≡ length ds / 2 = bytes-length ds in
-      let a : length (take i xs) ≡ i = length-take-le i xs (omega arith) in
-      let d : length (drop i xs) ≡ length xs - i = length-drop i xs in
-      let b : length (take 8 (drop i xs)) ≡ 8 = length-take-le 8 (drop i xs) (omega arith) in
-      let j : at + i ≡ at + length (take i xs) = omega arith in
-      ap₂ (put (at + i)) (is ∙ part_bytes ds i) inv
-      ∙ put_behind at (at + i) (take i xs) (take 8 (drop i xs)) m₀ j (omega arith)
-      ∙ ap (λ (l : List ℕ). put at l m₀) (sym (take-add i 8 xs))
+  pub sixteen_digits : all_digits ds ≡ true → all_digits (get_or parts i []) ≡ true
+  sixteen_digits h = ap all_digits sixteen_at ∙ digits_take 16 (drop (i * 8 * 2) ds) (digits_drop (i * 8 * 2) ds h)
 
-  pub eight_end : (k : ℕ) → i + 8 ≡ length ds / 2 → i ≤ k → k ≤ length ds / 2 → m ≡ put at (take k (bytes_of ds)) m₀ → put (at + i) bytes m ≡ put at (bytes_of ds) m₀
-  eight_end k e h u inv =
-      let xs = bytes_of ds in
-      let c : length xs ≡ length ds / 2 = bytes-length ds in
-      let d : length (drop i xs) ≡ length xs - i = length-drop i xs in
-      let all : take 8 (drop i xs) ≡ drop i xs = take_all 8 (drop i xs) (omega arith) in
-      ap₂ (put (at + i)) (is ∙ part_bytes ds i ∙ all) inv ∙ put_over_part at i k xs m₀ h (omega arith) (omega arith)
+  pub sixteen_bytes : (i * 8 + 8 ≤ n / 2) × (bytes_of (get_or parts i []) ≡ take 8 (drop (i * 8) (bytes_of ds)))
+  sixteen_bytes =
+      let fit = sixteen_fit in
+      (omega arith, ap bytes_of sixteen_at ∙ bytes_of_take 8 (drop (i * 8 * 2) ds) ∙ ap (take 8) (bytes_of_drop (i * 8) ds))
 
--- two of sixteen digits, and the eight bytes that they spell, one by one
-pub two_fit : (ds : List ℕ) (i j : ℕ) → length ds ≡ 16 → all_digits ds ≡ true → i < 16 → j < 16 → (value_of (get_or ds i 0) < 16) × (value_of (get_or ds j 0) < 16)
-two_fit ds i j l h u v =
-    let a : i < length ds = omega arith in
-    let b : j < length ds = omega arith in
-    (digit_at ds i h a, digit_at ds j h b)
+-- the last eight bytes, by the last sixteen digits of whole pairs
+module _ (ds last : List ℕ) (is : last ≡ drop (length (take (length ds / 2 * 2) ds) - 16) (take (length ds / 2 * 2) ds)) where
+  pub last_digits : all_digits ds ≡ true → all_digits last ≡ true
+  last_digits h = ap all_digits is ∙ digits_drop _ _ (digits_take (length ds / 2 * 2) ds h)
+
+  pub last_bytes : bytes_of last ≡ drop (length ds / 2 - 8) (bytes_of ds)
+  last_bytes =
+      let k = length ds / 2 in
+      let l : length (take (k * 2) ds) ≡ k * 2 = length-take-le (k * 2) ds (omega arith) in
+      let e : length (take (k * 2) ds) - 16 ≡ (k - 8) * 2 = omega arith in
+      let b : length (bytes_of ds) ≤ k = omega (arith, bytes-length ds) in
+      ap bytes_of (is ∙ rw e) ∙ bytes_of_drop (k - 8) (take (k * 2) ds) ∙ ap (drop (k - 8)) (bytes_of_take k ds ∙ take_all k (bytes_of ds) b)
 
 listed : ℕ → ℕ → List ℕ → List ℕ
 listed zero i xs = []

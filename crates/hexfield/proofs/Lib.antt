@@ -1,4 +1,5 @@
 pub mod Fields
+pub mod Parts
 pub mod Capitals
 pub mod Looking
 pub mod Eights

@@ -9,27 +9,17 @@ ghost use Rattle.hexfield.specs.Hex.{all_digits, bytes_of, hex_of};
 fn few_digits(field: &[u8]) -> bool
     ensures { result ≡ all_digits field.now }
 {
-    let mut i = 0;
-    while i < field.len() {
-        if !digit::is_digit(field[i]) {
-            return false;
-        }
-        i += 1;
-    }
-    true
+    field.iter().all(|byte| digit::is_digit(*byte))
 }
 
 // Are sixteen bytes digits? No branch leaves the loop and its count is fixed, so that the compiler takes all sixteen at
 // once.
-fn sixteen_digits(field: &[u8]) -> bool
-    requires { length field.now ≡ 16 }
+fn sixteen_digits(field: &[u8; 16]) -> bool
     ensures { result ≡ all_digits field.now }
 {
     let mut all = true;
-    let mut i = 0;
-    while i < 16 {
-        all = all & digit::is_digit(field[i]);
-        i += 1;
+    for byte in field {
+        all &= digit::is_digit(*byte);
     }
     all
 }
@@ -39,18 +29,11 @@ fn sixteen_digits(field: &[u8]) -> bool
 pub fn digits(field: &[u8]) -> bool
     ensures { result ≡ all_digits field.now }
 {
-    if field.len() < 16 {
+    let Some(last) = field.last_chunk::<16>() else {
         return few_digits(field);
-    }
-    let last = field.len() - 16;
-    let mut i = 0;
-    while i < last {
-        if !sixteen_digits(&field[i..i + 16]) {
-            return false;
-        }
-        i += 16;
-    }
-    sixteen_digits(&field[last..last + 16])
+    };
+    let (others, _) = field[..field.len() - 1].as_chunks::<16>();
+    others.iter().all(sixteen_digits) && sixteen_digits(last)
 }
 
 // The bytes that a short field spells go over those of `out` from place `at` on, one at a time; a last digit without
@@ -59,18 +42,17 @@ fn decode_few(field: &[u8], out: &mut [u8], at: usize)
     requires { (at + length field.now / 2 ≤ length out.old) × (all_digits field.now ≡ true) }
     ensures { out.new ≡ put at (bytes_of field.now) out.old }
 {
-    let count = field.len() / 2;
-    let mut i = 0;
-    while i < count {
-        out[at + i] = digit::byte(field[i * 2], field[i * 2 + 1]);
-        i += 1;
+    let (pairs, _) = field.as_chunks::<2>();
+    for (i, &[high, low]) in pairs.iter().enumerate() {
+        out[at + i] = digit::byte(high, low);
     }
 }
 
 // The bytes that sixteen digits spell. They are written out and given by value, so that the compiler takes all of them
 // at once.
-fn eight(field: &[u8]) -> [u8; 8]
-    requires { (length field.now ≡ 16) × (all_digits field.now ≡ true) }
+#[tactic(auto, using(crate::proofs::Fields::digit_at))]
+fn eight(field: &[u8; 16]) -> [u8; 8]
+    requires { all_digits field.now ≡ true }
     ensures { result ≡ bytes_of field.now }
 {
     [
@@ -87,14 +69,10 @@ fn eight(field: &[u8]) -> [u8; 8]
 
 // Eight bytes go over those of `out` from place `at` on.
 fn lay(bytes: [u8; 8], out: &mut [u8], at: usize)
-    requires { (length bytes ≡ 8) × (at + 8 ≤ length out.old) }
+    requires { at + 8 ≤ length out.old }
     ensures { out.new ≡ put at bytes out.old }
 {
-    let mut i = 0;
-    while i < 8 {
-        out[at + i] = bytes[i];
-        i += 1;
-    }
+    out[at..at + 8].copy_from_slice(&bytes);
 }
 
 // The bytes that the field spells go over those of `out` from place `at` on; a last digit without its second is left
@@ -103,17 +81,15 @@ pub fn decode(field: &[u8], out: &mut [u8], at: usize)
     requires { (at + length field.now / 2 ≤ length out.old) × (all_digits field.now ≡ true) }
     ensures { out.new ≡ put at (bytes_of field.now) out.old }
 {
-    if field.len() < 16 {
-        decode_few(field, out, at);
-        return;
+    let count = field.len() / 2;
+    let Some(last) = field[..count * 2].last_chunk::<16>() else {
+        return decode_few(field, out, at);
+    };
+    let (others, _) = field[..count * 2 - 2].as_chunks::<16>();
+    for (i, sixteen) in others.iter().enumerate() {
+        lay(eight(sixteen), out, at + i * 8);
     }
-    let last = field.len() / 2 - 8;
-    let mut i = 0;
-    while i < last {
-        lay(eight(&field[i * 2..i * 2 + 16]), out, at + i);
-        i += 8;
-    }
-    lay(eight(&field[last * 2..last * 2 + 16]), out, at + last);
+    lay(eight(last), out, at + count - 8);
 }
 
 // The field that spells the bytes goes over the bytes of `out` from place `at` on.
@@ -121,11 +97,8 @@ pub fn encode(bytes: &[u8], out: &mut [u8], at: usize)
     requires { at + length bytes.now * 2 ≤ length out.old }
     ensures { out.new ≡ put at (hex_of bytes.now) out.old }
 {
-    let mut i = 0;
-    while i < bytes.len() {
-        let x = bytes[i];
+    for (i, &x) in bytes.iter().enumerate() {
         out[at + i * 2] = digit::of(x / 16);
         out[at + i * 2 + 1] = digit::of(x);
-        i += 1;
     }
 }

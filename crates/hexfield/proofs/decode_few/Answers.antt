@@ -1,29 +1,27 @@
 -- `hexfield::decode_few` meets its contract. Assumes nothing.
-use native.Mathlib.Omega.{arith}
+use Rattle.std.proofs.Common.{◌≤◌, ◌<◌, ◌+◌, ◌*◌, ◌/◌, length, sym, ap₂, ◌∙◌, arith}
+use Rattle.digit.specs.Digit.{byte_of}
+use Rattle.hexfield.proofs.Parts.{pair_at}
 use Rattle.hexfield.proofs.Fields.{digit_at, read_turn, read_end}
-use lib.ListN.{length, length-set}
-use native.Mathlib.Nat.{add-zero}
-use Prim.Native.Nat.{◌+◌, ◌*◌, ◌<◌}
-use mathlib.Core.Path.{refl, sym, ◌∙◌}
 use Rattle.hexfield.proofs.decode_few.Goals as goal
-
-pub loop-i-init : goal.loop-i-init
-loop-i-init c = (rw add-zero, refl)
 
 pub byte-requires : goal.byte-requires
 byte-requires c =
-    let l = c.loop-i in
-    let a : l.i * 2 < length c.args.field.now = omega arith in
-    let b : l.i * 2 + 1 < length c.args.field.now = omega arith in
-    search (digit_at c.args.field.now _ c.requires.1 a, digit_at c.args.field.now _ c.requires.1 b)
+    let p = pair_at c.args.field.now _ _ c.as_chunks.ensures.front c.loop-i-test.true in
+    let a : c.loop-i.i * 2 < length c.args.field.now = omega arith in
+    let b : c.loop-i.i * 2 + 1 < length c.args.field.now = omega arith in
+    let first = digit_at c.args.field.now _ c.requires.1 a in
+    let second = digit_at c.args.field.now _ c.requires.1 b in
+    rw (p.0, p.1) (search (first, second))
 
 pub loop-i-preserved : goal.loop-i-preserved
 loop-i-preserved c =
     let l = c.loop-i in
-    (sym (read_turn _ _ _ _ _ c.loop-i-test.true c.byte.ensures) ∙ l.invariant.0, simp length-set l.invariant.1)
-
-pub shape_of-out : goal.shape_of-out
-shape_of-out c = c.loop-i.invariant.1
+    let p = pair_at c.args.field.now _ _ c.as_chunks.ensures.front c.loop-i-test.true in
+    let more : l.i < length c.args.field.now / 2 = omega arith in
+    sym (read_turn _ _ _ _ _ more (c.byte.ensures ∙ ap₂ byte_of p.0 p.1)) ∙ l.invariant
 
 pub returns : goal.returns
-returns c = read_end _ _ _ _ _ c.loop-i-test.false c.loop-i.invariant.0 c.requires.0
+returns c =
+    let done : length c.args.field.now / 2 ≤ c.loop-i.i = omega arith in
+    read_end _ _ _ _ _ done c.loop-i.invariant c.requires.0

@@ -1,18 +1,10 @@
 -- `hexfield::few_digits` meets its contract. Assumes nothing.
-use Rattle.hexfield.proofs.Looking.{look_on, look_stop, look_end}
-use mathlib.Core.Path.{refl, sym, ◌∙◌}
+use Rattle.std.proofs.Common.{rules, tests, ◌∙◌}
+use Rattle.std.proofs.lemmas.Iterator.{YieldsList-from_slice}
+use Rattle.std.proofs.lemmas.Iterator.Search.{all_from_yields_List}
+use Rattle.hexfield.proofs.Looking.{list_all_digits}
 use Rattle.hexfield.proofs.few_digits.Goals as goal
 
-pub loop-i-init : goal.loop-i-init
-loop-i-init c = refl
-
-pub returns-then-not-is_digit : goal.returns-then-not-is_digit
-returns-then-not-is_digit c =
-    sym (look_stop _ _ _ c.loop-i-test.true c.is_digit.ensures c.if-not-is_digit.true) ∙ c.loop-i.invariant
-
-pub loop-i-preserved : goal.loop-i-preserved
-loop-i-preserved c =
-    sym (look_on _ _ _ c.loop-i-test.true c.is_digit.ensures c.if-not-is_digit.false) ∙ c.loop-i.invariant
-
 pub returns : goal.returns
-returns c = sym (look_end c.args.field.now c.loop-i.i c.loop-i-test.false) ∙ c.loop-i.invariant
+returns c =
+    all_from_yields_List _ _ _ c.all.result c.all.ensures.ran (YieldsList-from_slice c.args.field.now cc) (λ x b q k. search (rules, tests)) ∙ list_all_digits c.args.field.now

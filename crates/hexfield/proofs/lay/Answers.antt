@@ -1,29 +1,15 @@
 -- `hexfield::lay` meets its contract. Assumes nothing.
-use native.Mathlib.Omega.{arith}
-use lib.ListN.{length, length-set}
-use Rattle.laws.proofs.Bytes.{sets_turn, sets_end, sets-put}
-use native.Mathlib.Nat.{add-zero}
-use Prim.Native.Nat.{◌+◌, ◌<◌, ◌≤◌}
-use mathlib.Core.Path.{refl, sym, ◌∙◌}
+use Rattle.std.proofs.Common.{length, ◌+◌, ◌-◌, arith, ◌≡◌, List, ℕ, take, drop, append_assoc}
+use borrow.Rule.Slice.PartMut.{put_mid}
+use lib.Seq.{drop-drop}
+use Rattle.laws.specs.Bytes.{put}
 use Rattle.hexfield.proofs.lay.Goals as goal
 
-pub loop-i-init : goal.loop-i-init
-loop-i-init c = (rw add-zero, refl)
-
-pub loop-i-preserved : goal.loop-i-preserved
-loop-i-preserved c =
-    let l = c.loop-i in
-    let e = c.requires.0 in
-    let more : l.i < length c.args.bytes = omega arith in
-    (sym (sets_turn _ _ _ _ more) ∙ l.invariant.0, simp length-set l.invariant.1)
-
-pub shape_of-out : goal.shape_of-out
-shape_of-out c = c.loop-i.invariant.1
+put-mid : (at k : ℕ) (ys m : List ℕ) → k ≡ length ys → put_mid at k m ys ≡ put at ys m
+unfolding put
+put-mid at k ys m e = rw (e, drop-drop (length ys) at m, append_assoc (take at m) ys (drop (at + length ys) m))
 
 pub returns : goal.returns
 returns c =
-    let l = c.loop-i in
-    let e = c.requires.0 in
-    let done : length c.args.bytes ≤ l.i = omega arith in
-    let room : c.args.at + length c.args.bytes ≤ length c.args.out.now = omega arith in
-    sym (sets_end _ _ _ _ done) ∙ l.invariant.0 ∙ sets-put _ _ _ room
+    let e : c.args.at + 8 - c.args.at ≡ length c.args.bytes = omega arith in
+    rw c.copy_from_slice.ensures.after (put-mid _ _ _ _ e)
