@@ -55,8 +55,7 @@ fn read_protected(board: Board, work: &[u8]) -> bool
     requires { length work.now ≡ work_bytes board }
     ensures { result ≡ read_protected board (work_of board work.now).values }
 {
-    let values = marks::values_from(board);
-    protection::read_protected(board, &work[values..values + board.memory_bytes()])
+    protection::read_protected(board, marks::values(board, work))
 }
 
 // The action that a request runs on every board, asked for before it runs.
@@ -69,13 +68,13 @@ pub fn due(board: Board, device: Device, setup: Setup, work: &[u8]) -> Action
 }
 
 // GETSTATUS: what is pending runs on every board.
+#[tactic(auto, unfolding(cells::specs::Cells::status_moves, action::specs::Action::status_action))]
 fn status(board: Board, device: Device, work: &mut [u8]) -> Step
     requires { Sound board × (length work.old ≡ work_bytes board) × (well_formed board device ≡ true) }
     ensures { moved_as result (work_of board work.new) ≡ status_moves board device (work_of board work.old) }
 {
     if !device.waits() {
-        let rest = Action::Rest;
-        return report(device, rest.ran(device.pointer, 0));
+        return report(device, Action::Rest.ran(device.pointer, 0));
     }
     let protected = read_protected(board, work);
     let action = action::intend(board, protected, device);
@@ -87,29 +86,30 @@ fn report(device: Device, ran: Ran) -> Step
     ensures { (w : Work) → moved_as result w ≡ reports device ran w }
 {
     let told = device.report(ran);
-    if told.status != 0 {
-        return falling(device);
+    if told.status == 0 {
+        going(device.status(ran))
+    } else {
+        falling(device)
     }
-    going(device.status(ran))
 }
 
 // UPLOAD of memory: only whether the checks allow it can differ, and they do not look at flash or RAM.
+#[tactic(auto, unfolding(cells::specs::Cells::reads_moves))]
 fn upload(board: Board, device: Device, setup: Setup, work: &[u8]) -> Step
     requires { length work.now ≡ work_bytes board }
     ensures { moved_as result (work_of board work.now) ≡ reads_moves board device setup (work_of board work.now) }
 {
     let protected = read_protected(board, work);
-    let count = setup.length;
-    let access = access::examine_block(board, protected, setup.value, count, device.pointer);
-    match access {
+    match access::examine_block(board, protected, setup.value, setup.length, device.pointer) {
         Access::Denied(_) => falling(device),
-        Access::InFlash(_) => going(device.enter(Mode::UploadIdle)),
-        Access::InRam(_) => going(device.enter(Mode::UploadIdle)),
-        Access::InOptions(_) => going(device.enter(Mode::UploadIdle)),
+        Access::InFlash(_) | Access::InRam(_) | Access::InOptions(_) => {
+            going(device.enter(Mode::UploadIdle))
+        }
     }
 }
 
 // The byte that two digits of a field spell, or 0 past its end.
+#[tactic(auto, using(crate::proofs::Answers::field_past, hexfield::proofs::Fields::byte_of_lem, hexfield::proofs::Fields::digit_at))]
 fn byte_in(field: &[u8], i: usize) -> u8
     requires { (i < 5) × (all_digits field.now ≡ true) }
     ensures { result ≡ get_or (bytes_of field.now) i 0 }
@@ -121,6 +121,7 @@ fn byte_in(field: &[u8], i: usize) -> u8
 }
 
 // The command that a field of data spells.
+#[tactic(auto, unfolding(command::specs::Command::command_of))]
 fn command(field: &[u8]) -> Command
     requires { all_digits field.now ≡ true }
     ensures { result ≡ command_of (bytes_of field.now) }
@@ -137,6 +138,7 @@ fn command(field: &[u8]) -> Command
 
 // A request on every board; `field` holds its data as digits. GETSTATUS is looked for first: it is the most frequent,
 // and has no data.
+#[tactic(auto, using(decision::proofs::Asking::only_status), unfolding(cells::specs::Cells::request_moves))]
 pub fn request(board: Board, device: Device, setup: Setup, field: &[u8], work: &mut [u8]) -> Step
     requires { Sound board × (length work.old ≡ work_bytes board) × (well_formed board device ≡ true) × (length field.now ≡ data_length setup * 2) × (all_digits field.now ≡ true) }
     ensures { moved_as result (work_of board work.new) ≡ request_moves board device setup (bytes_of field.now) (work_of board work.old) }
@@ -148,23 +150,21 @@ pub fn request(board: Board, device: Device, setup: Setup, field: &[u8], work: &
 }
 
 // A request that does not come to Status.
+#[tactic(auto, unfolding(cells::specs::Cells::request_moves))]
 fn decided(board: Board, device: Device, setup: Setup, field: &[u8], work: &mut [u8]) -> Step
     requires { (length work.old ≡ work_bytes board) × (length field.now ≡ data_length setup * 2) × (all_digits field.now ≡ true) × ((k : Command) → is_status (decide_of device setup k) ≡ false) }
     ensures { moved_as result (work_of board work.new) ≡ request_moves board device setup (bytes_of field.now) (work_of board work.old) }
 {
-    let decision = decision::decide(device, setup, command(field));
-    match decision {
-        Decision::Silent => falling(device),
-        Decision::Stall(_) => falling(device),
-        Decision::Accept(next) => going(next),
+    match decision::decide(device, setup, command(field)) {
+        Decision::Silent | Decision::Stall(_) => falling(device),
+        Decision::Accept(next) | Decision::Commands { next, count: _ } => going(next),
         Decision::Take(next) => {
             hexfield::decode(field, work, marks::block_from(board));
             going(next)
         }
-        Decision::Commands { next, count: _ } => going(next),
         Decision::Read => upload(board, device, setup, work),
         Decision::State => going(device),
-        // Never: it was asked for before.
-        Decision::Status => falling(device),
+        // It was asked for before.
+        Decision::Status => unreachable!(),
     }
 }
