@@ -10,43 +10,44 @@ ghost use Rattle.board.specs.Sound.{Sound};
 use board::Board;
 
 // A part of the RAM becomes zero.
+#[tactic(auto, unfolding(laws::specs::Bytes::put, laws::specs::Bytes::filled))]
 fn clear_part(board: Board, memory: &mut [u8], part: usize)
     requires { part_from board part + part_bytes board part ≤ length memory.old }
     ensures { memory.new ≡ filled (part_from board part) (part_bytes board part) 0 memory.old }
 {
     let from = board.part_from(part);
-    buffer::fill(memory, from, from + board.part_bytes(part), 0);
+    memory[from..from + board.part_bytes(part)].fill(0);
 }
 
 // The RAM becomes zero, part by part.
+#[tactic(auto, using(crate::proofs::Parts::parts_turn, crate::proofs::Parts::parts_end), unfolding(board::specs::Memory::ram_cleared))]
 pub fn clear_ram(board: Board, memory: &mut [u8])
     requires { Sound board × (length memory.old ≡ memory_bytes board) }
     ensures { memory.new ≡ ram_cleared board memory.old }
 {
-    let parts = board.ram_parts();
-    let mut part = 0;
-    while part < parts {
+    for part in 0..board.ram_parts() {
         clear_part(board, memory, part);
-        part += 1;
     }
 }
 
 // All flash erased, write-protected or not.
+#[tactic(auto, unfolding(laws::specs::Bytes::put, laws::specs::Bytes::filled, board::specs::Memory::flash_erased))]
 fn erase_flash(board: Board, memory: &mut [u8])
     requires { Sound board × (length memory.old ≡ memory_bytes board) }
     ensures { memory.new ≡ flash_erased board memory.old }
 {
     let from = board.flash_from();
-    buffer::fill(memory, from, from + board.flash_bytes(), 0xFF);
+    memory[from..from + board.flash_bytes()].fill(0xFF);
 }
 
 // All flash erased, RAM zero, and the default options.
+#[tactic(auto, unfolding(laws::specs::Bytes::put, board::specs::Memory::unprotected, board::specs::Memory::options_reset))]
 pub fn unprotect(board: Board, memory: &mut [u8])
     requires { Sound board × (length memory.old ≡ memory_bytes board) }
     ensures { memory.new ≡ unprotected board memory.old }
 {
-    let defaults = Board::default_options();
     erase_flash(board, memory);
     clear_ram(board, memory);
-    buffer::put(memory, board.options_from(), &defaults);
+    let from = board.options_from();
+    memory[from..from + Board::OPTION_BYTES].copy_from_slice(&Board::default_options());
 }
