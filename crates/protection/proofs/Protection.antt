@@ -1,7 +1,7 @@
 -- Laws of `write_protected` and `any_protected`, and what protection looks at. Assumes nothing.
 use mathlib.Core.Path.{◌≡◌, refl, ap, ap₂, ◌∙◌, sym}
 use mathlib.Core.Bool.{Bool, true, false, not, ◌||◌}
-use Prim.Native.Nat.{ℕ, zero, suc, ◌+◌, ◌-◌, ◌*◌, ◌≤◌, ◌<◌, ◌^◌}
+use Prim.Native.Nat.{ℕ, zero, suc, ◌+◌, ◌*◌, ◌≤◌, ◌<◌, ◌^◌}
 use native.Mathlib.Omega.{arith}
 use native.Mathlib.Numerals.{add-one}
 use native.Mathlib.Nat.{add-zero, pow-le-pow_right, div-eq_of_lt, lt_of_lt_of_le}
@@ -9,6 +9,7 @@ use mathlib.Core.List.{List}
 use lib.Dec.{eqb}
 use lib.ListN.{get_or}
 use Rattle.laws.proofs.Split.{by_eq, or_false}
+use Rattle.std.specs.List.{list_any, range_with_len}
 use Rattle.board.specs.declared.Board.{Board}
 use Rattle.board.specs.Layout.{options_from, option_bytes}
 use Rattle.protection.specs.Protection.{locked_from, word_from, read_protected, word_of, write_protected, any_protected}
@@ -21,29 +22,12 @@ protected_past word page w h =
     let small : word < 2 ^ page = lt_of_lt_of_le w (pow-le-pow_right two h) in
     rw (div-eq_of_lt small)
 
--- a turn of the loop that looks for a protected page, its start and its end; `any` says whether one was found
-pub any_start : (word count : ℕ) → false || any_protected word (count - 0) 0 ≡ any_protected word count 0
-any_start word count = let e : count - 0 ≡ count = omega arith in rw e
-
-or_assoc : (a b c : Bool) → (a || b) || c ≡ a || (b || c)
-or_assoc true b c = refl
-or_assoc false b c = refl
-
-or_none : (a : Bool) → a || false ≡ a
-or_none true = refl
-or_none false = refl
-
-pub any_turn : (word count page : ℕ) (any here : Bool) → page < count → here ≡ write_protected word page → (any || here) || any_protected word (count - (page + 1)) (page + 1) ≡ any || any_protected word (count - page) page
+-- one of some pages in turn is protected
+pub any_listed : (word count page : ℕ) → list_any (write_protected word) (range_with_len page count) ≡ any_protected word count page
 unfolding any_protected
-any_turn word count page any here more e =
-    let k : count - page ≡ suc (count - (page + 1)) = omega arith in
-    rw (k, e, add-one page) (or_assoc any (write_protected word page) (any_protected word (count - suc page) (suc page)))
-
-pub any_end : (word count page : ℕ) (any : Bool) → count ≤ page → any || any_protected word (count - page) page ≡ any
-unfolding any_protected
-any_end word count page any h =
-    let k : count - page ≡ 0 = omega arith in
-    rw k (or_none any)
+any_listed word zero page = refl
+any_listed word (suc count) page =
+    ap (λ (b : Bool). write_protected word page || b) (any_listed word count (page + 1) ∙ ap (any_protected word count) (add-one page))
 
 -- where no page is protected, the first is not, and none of the others
 pub none_parts : (word count page : ℕ) → any_protected word (suc count) page ≡ false → (write_protected word page ≡ false) × (any_protected word count (suc page) ≡ false)

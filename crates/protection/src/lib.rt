@@ -7,6 +7,7 @@ ghost use Rattle.protection.specs.Protection.{locked_from, word_from, write_prot
 use board::Board;
 
 // Do the option bytes that begin at place `from` forbid reading and writing?
+#[tactic(auto, unfolding(crate::specs::Protection::locked_from))]
 pub fn locked(bytes: &[u8], from: u32) -> bool
     ensures { result ≡ locked_from from bytes.now }
 {
@@ -14,6 +15,7 @@ pub fn locked(bytes: &[u8], from: u32) -> bool
 }
 
 // Is reading and writing of the board's memory forbidden?
+#[tactic(auto, unfolding(crate::specs::Protection::read_protected))]
 pub fn read_protected(board: Board, memory: &[u8]) -> bool
     ensures { result ≡ read_protected board memory.now }
 {
@@ -21,16 +23,15 @@ pub fn read_protected(board: Board, memory: &[u8]) -> bool
 }
 
 // The two option bytes that hold a bit a page, as one number; the option bytes begin at place `from`.
+#[tactic(auto, unfolding(crate::specs::Protection::word_from))]
 pub fn word(board: Board, bytes: &[u8], from: u32) -> u32
     ensures { result ≡ word_from board from bytes.now }
 {
-    let at = from as usize;
-    let low = buffer::byte_at(bytes, at + 8);
-    let high = buffer::byte_at(bytes, at + 9);
-    low as u32 + high as u32 * 256
+    u16::from_le_bytes(buffer::bytes_at(bytes, from as usize + 8)) as u32
 }
 
 // The protection word of the board's memory.
+#[tactic(auto, unfolding(crate::specs::Protection::word_of))]
 pub fn protection_word(board: Board, memory: &[u8]) -> u32
     ensures { result ≡ word_of board memory.now }
 {
@@ -38,26 +39,18 @@ pub fn protection_word(board: Board, memory: &[u8]) -> u32
 }
 
 // Is the page's bit clear in the protection word? A page that has no bit there is protected.
+#[tactic(auto, using(crate::proofs::Protection::protected_past), unfolding(crate::specs::Protection::write_protected))]
 pub fn write_protected(word: u32, page: usize) -> bool
     ensures { result ≡ write_protected word page }
 {
-    if 32 <= page {
-        return true;
-    }
-    (word >> page) & 1 == 0
+    32 <= page || (word >> page) & 1 == 0
 }
 
 // Is one of the first `count` pages write-protected?
 pub fn any_protected(word: u32, count: usize) -> bool
     ensures { result ≡ any_protected word count 0 }
 {
-    let mut any = false;
-    let mut page = 0;
-    while page < count {
-        any = any | write_protected(word, page);
-        page += 1;
-    }
-    any
+    (0..count).any(|page| write_protected(word, page))
 }
 
 // The option byte that holds the page's bit.

@@ -1,18 +1,12 @@
 -- `protection::any_protected` meets its contract. Assumes nothing.
-use mathlib.Core.Path.{◌∙◌, sym}
-use Rattle.protection.proofs.Protection.{any_start, any_turn, any_end}
+use Rattle.std.proofs.Common.{◌∙◌, refl, rules, arith}
+use Rattle.std.proofs.lemmas.Iterator.{YieldsList-from_range}
+use Rattle.std.proofs.lemmas.Iterator.Search.{any_from_yields_List}
+use Rattle.protection.specs.Protection.{write_protected}
+use Rattle.protection.proofs.Protection.{any_listed}
 use Rattle.protection.proofs.any_protected.Goals as goal
 
-pub loop-page-init : goal.loop-page-init
-loop-page-init c = any_start _ _
-
-pub write_protected-any-requires : goal.write_protected-any-requires
-write_protected-any-requires c = tt
-
-pub loop-page-preserved : goal.loop-page-preserved
-loop-page-preserved c =
-    let l = c.loop-page in
-    any_turn _ _ _ l.any _ c.loop-page-test.true c.write_protected-any.ensures ∙ l.invariant
-
 pub returns : goal.returns
-returns c = sym (any_end _ _ _ _ c.loop-page-test.false) ∙ c.loop-page.invariant
+returns c =
+    any_from_yields_List (write_protected c.args.word) _ _ _ c.any.ensures.ran (YieldsList-from_range 0 c.args.count c.args.count refl (omega arith)) (λ x b q h. search rules)
+    ∙ any_listed _ _ _
