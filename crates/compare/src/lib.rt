@@ -6,45 +6,36 @@ ghost use Rattle.laws.specs.Lists.{same, all_are};
 ghost use Rattle.compare.specs.Change.{first_change};
 
 // Is each byte from place `from` up to place `to` this one? It looks at them all, so that many can be compared at a
-// time.
+// time: `all` would stop at the first that is another.
+#[tactic(auto, using(crate::proofs::Alike::are_folded, std::proofs::lemmas::Grind::common_steps))]
 pub fn all_are(bytes: &[u8], from: usize, to: usize, byte: u8) -> bool
     requires { (from ≤ to) × (to ≤ length bytes.now) }
     ensures { result ≡ all_are byte (to - from) (drop from bytes.now) }
 {
-    let mut alike = true;
-    let mut i = from;
-    while i < to {
-        alike = alike & (bytes[i] == byte);
-        i += 1;
-    }
-    alike
+    bytes[from..to]
+        .iter()
+        .fold(true, |alike, x| alike & (*x == byte))
 }
 
-// Are the bytes the same, one by one? It looks at them all too.
+// Are the bytes the same, one by one? The library compares many at a time.
+#[tactic(auto, using(crate::proofs::Alike::same_is))]
 pub fn same_bytes(these: &[u8], those: &[u8]) -> bool
     requires { length these.now ≡ length those.now }
     ensures { result ≡ same these.now those.now }
 {
-    let mut alike = true;
-    let mut i = 0;
-    while i < those.len() {
-        alike = alike & (these[i] == those[i]);
-        i += 1;
-    }
-    alike
+    these == those
 }
 
 // The lowest place from `from` up to `to` where the two differ, or the first that is not below `to`. Bytes that are not
 // there count as 0.
+#[tactic(auto, using(crate::proofs::Change::first_turn, crate::proofs::Change::first_stop, crate::proofs::Change::first_end))]
 pub fn first_change(old: &[u8], new: &[u8], from: usize, to: usize) -> usize
     ensures { (result ≡ first_change old.now new.now (to - from) from) × (from ≤ result) }
 {
-    let mut i = from;
-    while i < to {
+    for i in from..to {
         if buffer::byte_at(old, i) != buffer::byte_at(new, i) {
             return i;
         }
-        i += 1;
     }
-    i
+    from.max(to)
 }

@@ -17,44 +17,18 @@ pub struct Numbers {
     pub count: usize,
 }
 
-fn join(low: u8, high: u8) -> u16
-    ensures { result ≡ low + high * 0x100 }
-{
-    low as u16 + high as u16 * 0x100
-}
-
-fn join_wide(a: u8, b: u8, c: u8, d: u8) -> u32
-    ensures { result ≡ a + b * 0x100 + c * 0x1_0000 + d * 0x100_0000 }
-{
-    a as u32 + b as u32 * 0x100 + c as u32 * 0x1_0000 + d as u32 * 0x100_0000
-}
-
 // The number in two bytes from place `at` on, low byte first; a byte past the end counts as 0.
 pub fn pair(bytes: &[u8], at: u8) -> u16
     ensures { result ≡ pair_of bytes.now at }
 {
-    let i = at as usize;
-    join(buffer::byte_at(bytes, i), buffer::byte_at(bytes, i + 1))
+    u16::from_le_bytes(buffer::bytes_at(bytes, usize::from(at)))
 }
 
 // The number in four bytes, likewise.
 pub fn quad(bytes: &[u8], at: u8) -> u32
     ensures { result ≡ quad_of bytes.now at }
 {
-    let i = at as usize;
-    join_wide(
-        buffer::byte_at(bytes, i),
-        buffer::byte_at(bytes, i + 1),
-        buffer::byte_at(bytes, i + 2),
-        buffer::byte_at(bytes, i + 3),
-    )
-}
-
-// A byte less, where there is one.
-fn shorter(length: u16) -> usize
-    ensures { result ≡ length - 1 }
-{
-    if 0 < length { length as usize - 1 } else { 0 }
+    u32::from_le_bytes(buffer::bytes_at(bytes, usize::from(at)))
 }
 
 // How much of a buffer is lent: its right length, a byte less, a byte more, or nothing.
@@ -62,9 +36,9 @@ pub fn lent(code: u8, right: u16) -> usize
     ensures { result ≡ lent_of code right }
 {
     match code {
-        0 => right as usize,
-        1 => shorter(right),
-        2 => right as usize + 1,
+        0 => usize::from(right),
+        1 => usize::from(right).saturating_sub(1),
+        2 => usize::from(right) + 1,
         _ => 0,
     }
 }

@@ -1,11 +1,7 @@
 -- `compare::first_change` meets its contract. Assumes nothing.
-use mathlib.Core.Path.{◌≡◌}
-use Prim.Native.Nat.{◌-◌, ◌≤◌}
+use Rattle.std.proofs.Common.{◌≡◌, ◌-◌, ◌≤◌, max}
 use Rattle.compare.specs.Change.{first_change}
 use Rattle.compare.proofs.first_change.Given as goal
 
 abbrev pub invariant-loop-i : goal.invariant-loop-i
-invariant-loop-i l = (first_change l.old l.new (l.to - l.i) l.i ≡ first_change l.old l.new (l.to - l.from) l.from) × (l.from ≤ l.i)
-
-abbrev pub decreases-loop-i : goal.decreases-loop-i
-decreases-loop-i l = l.to - l.i
+invariant-loop-i l = (first_change l.old l.new (l.to - l.i) l.i ≡ first_change l.old l.new (l.to - l.from) l.from) × (l.from ≤ l.i) × (l.i ≤ max l.from l.to)
