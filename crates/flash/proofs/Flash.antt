@@ -1,52 +1,30 @@
 -- Laws of `each`, `stored` and `erased`: a turn of each loop, its end, and lengths. Assumes nothing.
-use mathlib.Core.Path.{◌≡◌, ◌∙◌, sym}
-use mathlib.Core.Bool.{true, false, cond, ◌&&◌, ◌||◌}
+use mathlib.Core.Path.{◌≡◌, refl, ap, ◌∙◌, sym}
+use mathlib.Core.Bool.{Bool, true, false, cond, ◌&&◌, ◌||◌}
 use mathlib.Core.List.{List, [], ◌∷◌, ◌++◌}
-use Prim.Native.Nat.{ℕ, suc, ◌+◌, ◌-◌, ◌≤◌, ◌<◌}
+use Prim.Native.Nat.{ℕ, zero, suc, ◌+◌, ◌-◌, ◌≤◌, ◌<◌}
 use native.Mathlib.Omega.{arith}
 use native.Mathlib.Nat.{add_assoc}
 use native.Mathlib.Numerals.{add-one}
 use lib.Dec.{eqb}
-use borrow.Author.Tests.{eq-eqb, ne_eqb}
 use lib.ListN.{length, take, drop, get_or, set, take-append-drop, drop_of_length-le}
 use lib.Seq.{drop-cons, take-suc, take-suc-set, drop-set-lt, append_snoc}
-use Rattle.laws.specs.Bytes.{filled}
+use Rattle.std.specs.List.{list_all, range_with_len}
 use Rattle.laws.proofs.Split.{by_bool}
-use Rattle.laws.proofs.Bytes.{filled-length, filled-span}
-use Rattle.board.specs.Layout.{flash_pages, page_bytes, page_from}
+use Rattle.laws.proofs.Bytes.{filled-length}
+use Rattle.board.specs.Layout.{page_bytes, page_from}
 use Rattle.protection.specs.Protection.{write_protected}
 use Rattle.board.specs.declared.Board.{Board}
-use Rattle.flash.specs.Flash.{kept, each, laid, stored, erased, erased_from, erased_all}
+use Rattle.flash.specs.Flash.{kept, each, laid, stored, erased, erased_from}
 
--- a test of bytes w from place j on, which stand for places i up to e
-module _ (board : Board) (v word : ℕ) (w : List ℕ) (i e j : ℕ) (h : i < e) (l : j < length w) where
-  each_turn : each board v word i (e - i) (drop j w) ≡ ((eqb (get_or w j 0) v || kept board word i) && each board v word (i + 1) (e - (i + 1)) (drop (j + 1) w))
-  unfolding each
-  each_turn =
-      let k : e - i ≡ suc (e - (i + 1)) = omega arith in
-      rw (k, drop-cons w j 0 l, add-one i, add-one j)
-
-  -- a turn at a byte that is v, at one of a write-protected page, and at one that fails the test
-  pub each_is : get_or w j 0 ≡ v → each board v word (i + 1) (e - (i + 1)) (drop (j + 1) w) ≡ each board v word i (e - i) (drop j w)
-  each_is z = sym (each_turn ∙ rw (eq-eqb (get_or w j 0) v z))
-
-  pub each-kept : (get_or w j 0 ≡ v → ⊥) → kept board word i ≡ true → each board v word (i + 1) (e - (i + 1)) (drop (j + 1) w) ≡ each board v word i (e - i) (drop j w)
-  each-kept z k = sym (each_turn ∙ rw (ne_eqb (get_or w j 0) v z, k))
-
-  pub each_odd : (get_or w j 0 ≡ v → ⊥) → kept board word i ≡ false → false ≡ each board v word i (e - i) (drop j w)
-  each_odd z k = sym (each_turn ∙ rw (ne_eqb (get_or w j 0) v z, k))
-
-pub each_end : (board : Board) (v word : ℕ) (ms : List ℕ) (i e : ℕ) → e ≤ i → each board v word i (e - i) ms ≡ true
+-- the test of some bytes of m, place by place
+pub each_listed : (board : Board) (v word : ℕ) (m : List ℕ) (at count : ℕ) → at + count ≤ length m → list_all (λ i. eqb (get_or m i 0) v || kept board word i) (range_with_len at count) ≡ each board v word at count (drop at m)
 unfolding each
-each_end board v word ms i e h =
-    let k : e - i ≡ 0 = omega arith in
-    rw k
-
--- a span that is given by its two ends
-pub each-span : (board : Board) (v word at count : ℕ) (ms : List ℕ) → each board v word at (at + count - at) ms ≡ each board v word at count ms
-each-span board v word at count ms =
-    let e : at + count - at ≡ count = omega arith in
-    rw e
+each_listed board v word m at zero h = refl
+each_listed board v word m at (suc count) h =
+    let l : at < length m = omega arith in
+    let later : list_all (λ i. eqb (get_or m i 0) v || kept board word i) (range_with_len (at + 1) count) ≡ each board v word (suc at) count (drop (suc at) m) = rw (← add-one at) (each_listed board v word m (at + 1) count (omega arith)) in
+    rw (drop-cons m at 0 l) (ap (λ (b : Bool). (eqb (get_or m at 0) v || kept board word at) && b) later)
 
 -- one byte stored, unless its page is write-protected
 unfoldable pub stored_one : Board → ℕ → ℕ → ℕ → List ℕ → List ℕ
@@ -74,9 +52,9 @@ pub stored_open : (board : Board) (word : ℕ) (m m' xs : List ℕ) (at j : ℕ)
 unfolding stored_one
 stored_open board word m m' xs at j h l f e = sym (stored_turn board word m xs at j h l ∙ rw (f, e))
 
-pub stored-kept : (board : Board) (word : ℕ) (m m' xs : List ℕ) (at j : ℕ) → j < length xs → at + j < length m → kept board word (at + j) ≡ true → m' ≡ m → stored board word (at + (j + 1)) (drop (j + 1) xs) m' ≡ stored board word (at + j) (drop j xs) m
+pub stored_kept : (board : Board) (word : ℕ) (m m' xs : List ℕ) (at j : ℕ) → j < length xs → at + j < length m → kept board word (at + j) ≡ true → m' ≡ m → stored board word (at + (j + 1)) (drop (j + 1) xs) m' ≡ stored board word (at + j) (drop j xs) m
 unfolding stored_one
-stored-kept board word m m' xs at j h l f e = sym (stored_turn board word m xs at j h l ∙ rw (f, e))
+stored_kept board word m m' xs at j h l f e = sym (stored_turn board word m xs at j h l ∙ rw (f, e))
 
 pub stored-none : (board : Board) (word i : ℕ) (m : List ℕ) → stored board word i [] m ≡ m
 unfolding stored laid
@@ -90,14 +68,6 @@ unfolding erased
 erased-length board word page m h =
     by_bool (write_protected word page) (λ e. rw e) (λ e. rw e (filled-length (page_from board page) (page_bytes board) 0xFF m h))
 
-pub erased-kept : (board : Board) (word page : ℕ) (m : List ℕ) → write_protected word page ≡ true → m ≡ erased board word page m
-unfolding erased
-erased-kept board word page m e = rw e
-
-pub erased_open : (board : Board) (word page : ℕ) (m m' : List ℕ) → write_protected word page ≡ false → m' ≡ filled (page_from board page) (page_from board page + page_bytes board - page_from board page) 0xFF m → m' ≡ erased board word page m
-unfolding erased
-erased_open board word page m m' p e = e ∙ filled-span (page_from board page) (page_bytes board) 0xFF m ∙ rw p
-
 -- a turn of the erase of pages up to page e, and its end
 pub pages_turn : (board : Board) (word : ℕ) (m : List ℕ) (page e : ℕ) → page < e → erased_from board word (e - page) page m ≡ erased_from board word (e - (page + 1)) (page + 1) (erased board word page m)
 unfolding erased_from
@@ -110,7 +80,3 @@ unfolding erased_from
 pages_end_lem board word m page e h =
     let k : e - page ≡ 0 = omega arith in
     rw k
-
-pub pages_whole : (board : Board) (word : ℕ) (m : List ℕ) (pages : ℕ) → pages ≡ flash_pages board → erased_from board word pages 0 m ≡ erased_all board word m
-unfolding erased_all
-pages_whole board word m pages e = rw e

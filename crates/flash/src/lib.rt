@@ -20,32 +20,24 @@ pub fn is_blank(board: Board, memory: &[u8], word: u32, at: usize, count: usize)
     requires { at + count ≤ length memory.now }
     ensures { result ≡ blank board word at count memory.now }
 {
-    let end = at + count;
-    let mut i = at;
-    while i < end {
-        if memory[i] != 0xFF && !is_kept(board, word, i) {
-            return false;
-        }
-        i += 1;
-    }
-    true
+    (at..at + count).all(|i| memory[i] == 0xFF || is_kept(board, word, i))
 }
 
 // The bytes of `source` go over those from place `at` on, but for those in write-protected pages.
+#[tactic(auto, using(crate::proofs::Flash::stored_open, crate::proofs::Flash::stored_kept, crate::proofs::Flash::stored_end))]
 pub fn store(board: Board, memory: &mut [u8], word: u32, at: usize, source: &[u8])
     requires { at + length source.now ≤ length memory.old }
     ensures { memory.new ≡ stored board word at source.now memory.old }
 {
-    let mut i = 0;
-    while i < source.len() {
+    for i in 0..source.len() {
         if !is_kept(board, word, at + i) {
             memory[at + i] = source[i];
         }
-        i += 1;
     }
 }
 
 // A page is erased, unless it is write-protected.
+#[tactic(auto, unfolding(laws::specs::Bytes::put, laws::specs::Bytes::filled, crate::specs::Flash::erased))]
 pub fn erase(board: Board, memory: &mut [u8], word: u32, page: usize)
     requires { (page < flash_pages board) × (page_from board page + page_bytes board ≤ length memory.old) }
     ensures { memory.new ≡ erased board word page memory.old }
@@ -54,18 +46,16 @@ pub fn erase(board: Board, memory: &mut [u8], word: u32, page: usize)
         return;
     }
     let from = board.page_from(page);
-    buffer::fill(memory, from, from + board.page_bytes(), 0xFF);
+    memory[from..from + board.page_bytes()].fill(0xFF);
 }
 
 // Every page of the flash is erased, unless it is write-protected.
+#[tactic(auto, using(crate::proofs::Flash::pages_turn, crate::proofs::Flash::pages_end_lem, board::proofs::Pages::page_in_memory), unfolding(crate::specs::Flash::erased_all))]
 pub fn erase_all(board: Board, memory: &mut [u8], word: u32)
     requires { Sound board × (length memory.old ≡ memory_bytes board) }
     ensures { memory.new ≡ erased_all board word memory.old }
 {
-    let pages = board.flash_pages();
-    let mut page = 0;
-    while page < pages {
+    for page in 0..board.flash_pages() {
         erase(board, memory, word, page);
-        page += 1;
     }
 }
