@@ -10,7 +10,7 @@ use reasons::ends::{Altered, Stopped};
 use reasons::event::Failed;
 use reasons::flash::Found;
 use reasons::{ends, event, flash, refused};
-use refusal::Done;
+use refusal::Refusal;
 use verdict::Verdict;
 
 // How many events come before the one in this line.
@@ -132,13 +132,10 @@ fn differs(rt: &impl System, offset: usize, packed: &[u8], image: &[u8], card: &
 }
 
 // How many bytes of evidence there are.
-fn size(evidence: Done, room: usize) -> usize
+fn size(evidence: Result<usize, Refusal>, room: usize) -> usize
     ensures { result ≤ room }
 {
-    match evidence {
-        Done::Bytes(count) => buffer::least(count, room),
-        Done::Refused(_) => 0,
-    }
+    evidence.unwrap_or(0).min(room)
 }
 
 // Says a verdict to people. At the front of `room` stands the evidence that was gathered for it: the job's events,
@@ -146,7 +143,7 @@ fn size(evidence: Done, room: usize) -> usize
 pub fn explain(
     rt: &impl System,
     verdict: Verdict,
-    evidence: Done,
+    evidence: Result<usize, Refusal>,
     room: &[u8],
     image: &[u8],
     card: &[u8],

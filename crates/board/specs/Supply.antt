@@ -1,8 +1,7 @@
 -- What a board can be supplied with. Document 01, "The checker and the plan": image and card; "Refusal numbers", rows 7 and 8. Assumes nothing.
-use Rattle.std.specs.Prelude.{Bool, not, ◌||◌, List, [], ◌∷◌, ℕ, eqb, ltb}
+use Rattle.std.specs.Prelude.{Bool, not, ◌||◌, List, [], ◌∷◌, ℕ, eqb, ltb, ⊤, Result}
 use Rattle.refusal.specs.declared.Refusal.{Refusal}
 use Rattle.refusal.specs.declared.Refusal.TheVariants.{Image, Card}
-use Rattle.refusal.specs.declared.Admission.{Admission}
 use Rattle.refusal.specs.Order.{first_of}
 use Rattle.board.specs.declared.Board.{Board}
 use Rattle.board.specs.Layout.{flash_bytes, option_bytes}
@@ -19,5 +18,5 @@ supply_refusals board image card =
     ∷ []
 
 -- the first of them
-unfoldable pub supplied : Board → ℕ → ℕ → Admission
+unfoldable pub supplied : Board → ℕ → ℕ → Result ⊤ Refusal
 supplied board image card = first_of (supply_refusals board image card)

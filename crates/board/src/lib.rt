@@ -10,7 +10,7 @@ ghost use Rattle.board.specs.Memory.{ram_parts, part_from, part_bytes, stretch_a
 ghost use Rattle.board.specs.Supply.{unfit, supplied};
 ghost use Rattle.board.specs.Span.{place_of, spans, in_flash};
 
-use refusal::{Admission, Refusal};
+use refusal::Refusal;
 
 // A board is known by its number of flash pages; all else of the layout follows.
 #[derive(Clone, Copy)]
@@ -189,16 +189,16 @@ impl Board {
     }
 
     // The refusals of an image and a card of these lengths, in their order.
-    pub fn supplied(self, image: usize, card: usize) -> Admission
+    pub fn supplied(self, image: usize, card: usize) -> Result<(), Refusal>
         ensures { result ≡ supplied self image card }
     {
         if self.unfit(image) {
-            return Admission::Refused(Refusal::Image);
+            return Err(Refusal::Image);
         }
         if card != Board::OPTION_BYTES {
-            return Admission::Refused(Refusal::Card);
+            return Err(Refusal::Card);
         }
-        Admission::Admitted
+        Ok(())
     }
 
     // Do the `count` addresses from `address` on lie in flash?

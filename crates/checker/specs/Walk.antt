@@ -1,5 +1,5 @@
 -- How what the checker's inner functions answer is read: a device of the proof, which no public promise names. Assumes nothing.
-use Rattle.std.specs.Prelude.{◌≡◌, true, false, List, ℕ, suc, ◌≤◌, ◌<◌, length, drop, get_or}
+use Rattle.std.specs.Prelude.{◌≡◌, true, false, List, ℕ, suc, ◌≤◌, ◌<◌, length, drop, get_or, Result, Ok, Err}
 use Rattle.board.specs.declared.Board.{Board}
 use Rattle.board.specs.Memory.{flash_at}
 use Rattle.device.specs.declared.Device.{Device}
@@ -8,8 +8,6 @@ use Rattle.text.specs.Text.{first_bad, events_of}
 use Rattle.marks.specs.Work.{Work}
 use Rattle.judgement.specs.Judgement.{Over, fell, ended, over_of}
 use Rattle.checker.specs.declared.Onward.{Onward}
-use Rattle.checker.specs.declared.Outcome.{Outcome}
-use Rattle.checker.specs.declared.Outcome.TheVariants as outcome
 
 -- from a place on, the text has no malformed line
 abbrev pub Ahead : List ℕ → ℕ → Type 0
@@ -29,9 +27,9 @@ pub record Advanced (board : Board) (t : List ℕ) (at : ℕ) (d : Device) (w : 
   pub further : r.falls ≡ false → Further board t at d w r.device r.behind w'
 
 -- a run's outcome, with the work area that it left
-abbrev pub over_as : Outcome → Work → Over
-over_as (outcome.Fell k) w = fell k
-over_as (outcome.Ended d) w = ended d w
+abbrev pub over_as : Result Device ℕ → Work → Over
+over_as (Ok d) w = ended d w
+over_as (Err k) w = fell k
 
 -- flash begins with the image, and is erased from there up to offset `end`
 pub record InPlace (board : Board) (m image : List ℕ) (end : ℕ) : Type 0 where

@@ -2,7 +2,6 @@
 #![tactic(auto)]
 
 ghost use Rattle.std.specs.Prelude.{◌≡◌, true, false, not, ◌&&◌, eqb, ◌≤◌, ◌<◌, length};
-ghost use Rattle.refusal.specs.Order.{first_of};
 ghost use Rattle.board.specs.Layout.{logger, flash_bytes, option_bytes, memory_bytes};
 ghost use Rattle.board.specs.Memory.{options_of};
 ghost use Rattle.board.specs.Sound.{Sound};
@@ -10,7 +9,6 @@ ghost use Rattle.device.specs.State.{started};
 ghost use Rattle.states.specs.WellFormed.{well_formed};
 ghost use Rattle.laws.specs.Lists.{same};
 ghost use Rattle.text.specs.Text.{events_of};
-ghost use Rattle.job.specs.Calls.{text_refusals};
 ghost use Rattle.demand.specs.Verdict.{is_left, pages_end};
 ghost use Rattle.checker.specs.Walk.{Ahead, Advanced, over_as, InPlace};
 ghost use Rattle.verdict.specs.Report.{in_fields};
@@ -22,7 +20,7 @@ ghost use Rattle.judgement.specs.Judgement.{over_of, suspect, lowest_from, end_n
 use board::Board;
 use device::Device;
 use mode::Mode;
-use refusal::{Admission, Done, Refusal};
+use refusal::Refusal;
 use text::Item;
 use verdict::Verdict;
 
@@ -230,16 +228,8 @@ fn advance(board: Board, device: Device, job: &[u8], at: usize, work: &mut [u8])
     }
 }
 
-// How a job comes out before its end is looked at: the number of the first event that fails, or the state of all
-// boards.
-#[derive(Clone, Copy)]
-enum Outcome {
-    Fell(usize),
-    Ended(Device),
-}
-
-// The events of a job in turn, up to the first that fails.
-fn run(board: Board, job: &[u8], work: &mut [u8]) -> Outcome
+// The events of a job in turn: the state of all boards behind them, or the number of the first that fails.
+fn run(board: Board, job: &[u8], work: &mut [u8]) -> Result<Device, usize>
     requires { Sound board × (length work.old ≡ work_bytes board) × Ahead job.now 0 }
     ensures { over_as result (work_of board work.new) ≡ over_of board (events_of job.now) (started board) (work_of board work.old) 0 }
 {
@@ -250,13 +240,13 @@ fn run(board: Board, job: &[u8], work: &mut [u8]) -> Outcome
         let onward = advance(board, device, job, at, work);
         events += 1;
         if onward.falls {
-            return Outcome::Fell(events);
+            return Err(events);
         }
         let after = onward.device;
         device = after;
         at = onward.behind;
     }
-    Outcome::Ended(device)
+    Ok(device)
 }
 
 // The options are known from the start, and nothing else.
@@ -276,35 +266,22 @@ fn judge(board: Board, job: &[u8], image: &[u8], card: &[u8], work: &mut [u8]) -
     ensures { result ≡ verdict_of board (events_of job.now) image.now card.now (work_of board work.old) }
 {
     begin(board, card, work);
-    let outcome = run(board, job, work);
-    match outcome {
-        Outcome::Fell(k) => Verdict::Event(k),
-        Outcome::Ended(device) => finish(board, device, image, card, work),
+    match run(board, job, work) {
+        Ok(device) => finish(board, device, image, card, work),
+        Err(event) => Verdict::Event(event),
     }
 }
 
 // The refusals of a check, in their order.
-fn admit(board: Board, job: &[u8], image: usize, card: usize, work: usize) -> Admission
+fn admit(board: Board, job: &[u8], image: usize, card: usize, work: usize) -> Result<(), Refusal>
     ensures { result ≡ checkable board job.now image card work }
 {
     if work != marks::work_bytes(board) {
-        return Admission::Refused(Refusal::Work);
+        return Err(Refusal::Work);
     }
-    let supplied = board.supplied(image, card);
-    match supplied {
-        Admission::Refused(why) => Admission::Refused(why),
-        Admission::Admitted => readable(job),
-    }
-}
-
-fn readable(job: &[u8]) -> Admission
-    ensures { result ≡ first_of (text_refusals job.now) }
-{
-    let measured = job::measure(job);
-    match measured {
-        Done::Bytes(_) => Admission::Admitted,
-        Done::Refused(why) => Admission::Refused(why),
-    }
+    board.supplied(image, card)?;
+    job::measure(job)?;
+    Ok(())
 }
 
 // Checks a job: does every board with this card, whatever its flash and RAM hold, end up with the image?
@@ -312,9 +289,8 @@ pub fn check(job: &[u8], image: &[u8], card: &[u8], work: &mut [u8]) -> Verdict
     ensures { Checked logger job.now image.now card.now work.old (in_fields result) work.new }
 {
     let board = Board::LOGGER;
-    let admission = admit(board, job, image.len(), card.len(), work.len());
-    match admission {
-        Admission::Refused(why) => Verdict::Refused(why),
-        Admission::Admitted => judge(board, job, image, card, work),
+    match admit(board, job, image.len(), card.len(), work.len()) {
+        Ok(()) => judge(board, job, image, card, work),
+        Err(why) => Verdict::Refused(why),
     }
 }

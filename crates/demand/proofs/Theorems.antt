@@ -6,6 +6,7 @@ use Prim.Native.Nat.{ℕ, suc, ◌≤◌, ◌<◌}
 use native.Mathlib.Omega.{arith}
 use lib.ListN.{length}
 use borrow.Author.Tests.{eq-eqb, ne_eqb, eqb-true, lt-ltb, le-ltb, not-false}
+use Rattle.std.specs.Prelude.{⊤, Result, Ok, Err}
 use Rattle.laws.proofs.Split.{by_eq, by_lt}
 use Rattle.board.specs.declared.Board.{Board}
 use Rattle.board.specs.Layout.{logger, flash_first, flash_bytes}
@@ -14,13 +15,11 @@ use Rattle.board.specs.Sound.{Sound}
 use Rattle.board.proofs.Logger.{logger-sound}
 use Rattle.board.proofs.Pages.{pages_hold}
 use Rattle.refusal.specs.declared.Refusal.{Refusal}
-use Rattle.refusal.specs.declared.Admission.{Admission}
-use Rattle.refusal.specs.declared.Admission.TheVariants as admission
 use Rattle.line.specs.Event.{Event}
 use Rattle.text.specs.Text.{events_of, capital_text}
 use Rattle.text.proofs.CapitalText.{capital_events}
 use Rattle.job.proofs.Refusals.{capital_refusals}
-use Rattle.refusal.proofs.First.{by_admission, First, first_exactly}
+use Rattle.refusal.proofs.First.{by_answer, First, first_exactly}
 use Rattle.laws.proofs.Lists.{same_refl, same_eq}
 use Rattle.verdict.specs.declared.Verdict.{Verdict}
 use Rattle.verdict.specs.declared.Verdict.TheVariants as verdict
@@ -134,35 +133,35 @@ module _ (board : Board) (es : List Event) (image card : List ℕ) where
 -- what the promise of `check` says of an answer v, and of the work area x that it leaves
 module _ (board : Board) (t image card w : List ℕ) (v : Verdict) (x : List ℕ) (c : Checked board t image card w (in_fields v) x) where
   -- Where nothing is refused, v is the verdict of the text's events.
-  pub checked_verdict : checkable board t (length image) (length card) (length w) ≡ admission.Admitted → Judged board (events_of t) image card v
+  pub checked_verdict : checkable board t (length image) (length card) (length w) ≡ Ok tt → Judged board (events_of t) image card v
   checked_verdict e =
       let p : (u : Verdict) × (in_fields v ≡ in_fields u) × Judged board (events_of t) image card u = rw e at c in
       rw (fields_injective v p.0 p.1) p.2
 
   -- Otherwise it is that refusal, and the work area is as it was.
-  pub checked_refusal : (r : Refusal) → checkable board t (length image) (length card) (length w) ≡ admission.Refused r → (v ≡ verdict.Refused r) × (x ≡ w)
+  pub checked_refusal : (r : Refusal) → checkable board t (length image) (length card) (length w) ≡ Err r → (v ≡ verdict.Refused r) × (x ≡ w)
   checked_refusal r e =
       let p : (in_fields v ≡ in_fields (verdict.Refused r)) × (x ≡ w) = rw e at c in
       (fields_injective v (verdict.Refused r) p.0, p.1)
 
 -- A refusal is the first row that applies.
-pub check_refused_first : (board : Board) (t : List ℕ) (image card work : ℕ) (r : Refusal) → checkable board t image card work ≡ admission.Refused r → First (check_refusals board t image card work) r
+pub check_refused_first : (board : Board) (t : List ℕ) (image card work : ℕ) (r : Refusal) → checkable board t image card work ≡ Err r → First (check_refusals board t image card work) r
 unfolding checkable
-check_refused_first board t image card work r e = (first_exactly (check_refusals board t image card work) (admission.Refused r)).0 e
+check_refused_first board t image card work r e = (first_exactly (check_refusals board t image card work) (Err r)).0 e
 
 -- Any two answers that the promise of `check` allows are equal.
 pub one_answer : (board : Board) (t image card w : List ℕ) (v u : Verdict) (x y : List ℕ) → Checked board t image card w (in_fields v) x → Checked board t image card w (in_fields u) y → v ≡ u
 one_answer board t image card w v u x y a b =
-    by_admission (checkable board t (length image) (length card) (length w))
+    by_answer (checkable board t (length image) (length card) (length w))
     (λ e. one_verdict board (events_of t) image card v u (checked_verdict board t image card w v x a e) (checked_verdict board t image card w u y b e))
     (λ r e. (checked_refusal board t image card w v x a r e).0 ∙ sym (checked_refusal board t image card w u y b r e).0)
 
 -- After a refusal so are the work areas.
-pub one_area : (board : Board) (t image card w : List ℕ) (v u : Verdict) (x y : List ℕ) (r : Refusal) → checkable board t (length image) (length card) (length w) ≡ admission.Refused r → Checked board t image card w (in_fields v) x → Checked board t image card w (in_fields u) y → x ≡ y
+pub one_area : (board : Board) (t image card w : List ℕ) (v u : Verdict) (x y : List ℕ) (r : Refusal) → checkable board t (length image) (length card) (length w) ≡ Err r → Checked board t image card w (in_fields v) x → Checked board t image card w (in_fields u) y → x ≡ y
 one_area board t image card w v u x y r e a b = (checked_refusal board t image card w v x a r e).1 ∙ sym (checked_refusal board t image card w u y b r e).1
 
 -- The third demand: where `check` does not refuse, it answers Pass, `ACCEPT 0 0`, exactly when every board works.
-pub demand_three : (board : Board) → Sound board → (t image card w : List ℕ) (v : Verdict) (x : List ℕ) → checkable board t (length image) (length card) (length w) ≡ admission.Admitted → Checked board t image card w (in_fields v) x → (v ≡ verdict.Pass → AllWork board (events_of t) image card) × (AllWork board (events_of t) image card → v ≡ verdict.Pass)
+pub demand_three : (board : Board) → Sound board → (t image card w : List ℕ) (v : Verdict) (x : List ℕ) → checkable board t (length image) (length card) (length w) ≡ Ok tt → Checked board t image card w (in_fields v) x → (v ≡ verdict.Pass → AllWork board (events_of t) image card) × (AllWork board (events_of t) image card → v ≡ verdict.Pass)
 demand_three board sound t image card w v x e c =
     let j = checked_verdict board t image card w v x c e in
     let exactly = pass_exactly board (events_of t) image card sound (checkable_parts board t (length image) (length card) (length w) e).supply.most in (
@@ -171,7 +170,7 @@ demand_three board sound t image card w v x e c =
     )
 
 -- And so on the logger's board, on which `check` runs.
-pub logger_demand_three : (t image card w : List ℕ) (v : Verdict) (x : List ℕ) → checkable logger t (length image) (length card) (length w) ≡ admission.Admitted → Checked logger t image card w (in_fields v) x → (v ≡ verdict.Pass → AllWork logger (events_of t) image card) × (AllWork logger (events_of t) image card → v ≡ verdict.Pass)
+pub logger_demand_three : (t image card w : List ℕ) (v : Verdict) (x : List ℕ) → checkable logger t (length image) (length card) (length w) ≡ Ok tt → Checked logger t image card w (in_fields v) x → (v ≡ verdict.Pass → AllWork logger (events_of t) image card) × (AllWork logger (events_of t) image card → v ≡ verdict.Pass)
 logger_demand_three = demand_three logger logger-sound
 
 capital_checkable : (board : Board) (t : List ℕ) (image card work : ℕ) → checkable board (capital_text t) image card work ≡ checkable board t image card work
@@ -179,9 +178,9 @@ unfolding checkable
 capital_checkable board t image card work = rw (capital_refusals t)
 
 -- texts of the same events are ruled alike
-ruled_alike : (a : Admission) (board : Board) (t u image card w : List ℕ) (f : Fields) (x : List ℕ) → events_of t ≡ events_of u → Ruled a board t image card w f x → Ruled a board u image card w f x
-ruled_alike admission.Admitted board t u image card w f x e c = (c.0, c.1, rw e at c.2)
-ruled_alike (admission.Refused r) board t u image card w f x e c = c
+ruled_alike : (a : Result ⊤ Refusal) (board : Board) (t u image card w : List ℕ) (f : Fields) (x : List ℕ) → events_of t ≡ events_of u → Ruled a board t image card w f x → Ruled a board u image card w f x
+ruled_alike (Ok _) board t u image card w f x e c = (c.0, c.1, rw e at c.2)
+ruled_alike (Err r) board t u image card w f x e c = c
 
 -- What the promise of `check` allows for a text, it allows for its capital spelling, and the other way round.
 pub same_answer : (board : Board) (t image card w : List ℕ) (f : Fields) (x : List ℕ) → (Checked board t image card w f x → Checked board (capital_text t) image card w f x) × (Checked board (capital_text t) image card w f x → Checked board t image card w f x)

@@ -6,16 +6,15 @@ use Prim.Native.Nat.{ℕ, suc, ◌≤◌}
 use native.Mathlib.Omega.{arith}
 use lib.Dec.{eqb}
 use lib.ListN.{length}
+use Rattle.std.specs.Prelude.{⊤, Result, Ok, Err}
 use Rattle.laws.proofs.Split.{by_bool}
 use Rattle.bits.specs.Bits.{any_from}
 use Rattle.refusal.specs.declared.Refusal.{Refusal}
 use Rattle.refusal.specs.declared.Refusal.TheVariants.{Record, Outside, Twice, Unended, Empty}
-use Rattle.refusal.specs.declared.Admission.{Admission}
-use Rattle.refusal.specs.declared.Admission.TheVariants as admission
 use Rattle.refusal.specs.Refusal.{number_of, line_named}
 use Rattle.refusal.specs.Order.{first_of}
 use Rattle.refusal.proofs.Numbers.{refusal_injective}
-use Rattle.refusal.proofs.First.{by_admission, refused_not, first-here, first_on, first-none}
+use Rattle.refusal.proofs.First.{by_answer, refused_not, first-here, first_on, first-none}
 use Rattle.board.specs.declared.Board.{Board}
 use Rattle.board.specs.Span.{in_flash}
 use Rattle.record.specs.Record.{record_in, type_of, data_of, good_record}
@@ -25,11 +24,11 @@ use Rattle.ihex.specs.Reading.{data_address, upper_after, given_after, ends, rec
 use Rattle.ihex.proofs.Walking.{line_bad, line_refused, line_goes_on, line-ends}
 
 -- a refusal is one refusal, by its number and by its line
-same_refusal : (r s : Refusal) → admission.Refused r ≡ admission.Refused s → (number_of r ≡ number_of s) × (line_named r ≡ line_named s)
+same_refusal : (r s : Refusal) → ◌≡◌ {A = Result ⊤ Refusal} (Err r) (Err s) → (number_of r ≡ number_of s) × (line_named r ≡ line_named s)
 same_refusal r s e = let is : r ≡ s = cc in (ap number_of is, ap line_named is)
 
 -- 21 and 22 are no 20
-piece_no_record : (board : Board) (a : ℕ) (xs : List ℕ) (ps : List Piece) (m : ℕ) → first_of (piece_refusals board a xs ps) ≡ admission.Refused (Record m) → ⊥
+piece_no_record : (board : Board) (a : ℕ) (xs : List ℕ) (ps : List Piece) (m : ℕ) → first_of (piece_refusals board a xs ps) ≡ Err (Record m) → ⊥
 piece_no_record board a xs ps m e =
     by_bool (not (eqb (length xs) 0) && not (in_flash board a (length xs)))
     (λ o. let x = (same_refusal Outside (Record m) (sym (first-here _ _ _ o) ∙ e)).0 in omega arith)
@@ -38,17 +37,17 @@ piece_no_record board a xs ps m e =
     (λ t. let x = (same_refusal Twice (Record m) (sym (first_on _ _ _ o ∙ first-here _ _ _ t) ∙ e)).0 in omega arith)
     (λ t. refused_not (Record m) (sym e ∙ first_on _ _ _ o ∙ first_on _ _ _ t ∙ first-none)))
 
-record_no_record : (board : Board) (upper : ℕ) (ps : List Piece) (r : List ℕ) (m : ℕ) → first_of (record_refusals board upper ps r) ≡ admission.Refused (Record m) → ⊥
+record_no_record : (board : Board) (upper : ℕ) (ps : List Piece) (r : List ℕ) (m : ℕ) → first_of (record_refusals board upper ps r) ≡ Err (Record m) → ⊥
 unfolding record_refusals
 record_no_record board upper ps r m e =
     by_bool (eqb (type_of r) 0)
     (λ t. piece_no_record board (data_address upper r) (data_of r) ps m (rw t at e))
-    (λ t. let z : first_of [] ≡ admission.Refused (Record m) = rw t at e in refused_not (Record m) (sym z ∙ first-none))
+    (λ t. let z : first_of [] ≡ Err (Record m) = rw t at e in refused_not (Record m) (sym z ∙ first-none))
 
 -- what an answer says of the line: k is the first line that counts
-abbrev pub Names : Admission → ℕ → Type 0
-Names admission.Admitted line = line ≡ 0
-Names (admission.Refused r) line = (1 ≤ line) × (number_of r ≡ 20 → line_named r ≡ line)
+abbrev pub Names : Result ⊤ Refusal → ℕ → Type 0
+Names (Ok _) line = line ≡ 0
+Names (Err r) line = (1 ≤ line) × (number_of r ≡ 20 → line_named r ≡ line)
 
 names_end : (k : ℕ) (ps : List Piece) (ls : List (List ℕ)) → 1 ≤ k → Names (first_of (end_refusals ps ls)) (faulty_end k ps ls)
 names_end k ps [] one =
@@ -62,15 +61,15 @@ unfolding refusals_from faulty_from
 names_missing board k upper ps one = rw (first-here Unended true [] refl) (one, λ z. absurd (omega arith))
 
 -- of a record alone, no refusal has the number 20
-not_record : (why : Refusal) → number_of why ≡ 20 → (board : Board) (upper : ℕ) (ps : List Piece) (r : List ℕ) → first_of (record_refusals board upper ps r) ≡ admission.Refused why → ⊥
-not_record why z board upper ps r e = record_no_record board upper ps r (line_named why) (e ∙ ap admission.Refused (refusal_injective why (Record (line_named why)) z refl))
+not_record : (why : Refusal) → number_of why ≡ 20 → (board : Board) (upper : ℕ) (ps : List Piece) (r : List ℕ) → first_of (record_refusals board upper ps r) ≡ Err why → ⊥
+not_record why z board upper ps r e = record_no_record board upper ps r (line_named why) (e ∙ ap Err (refusal_injective why (Record (line_named why)) z refl))
 
 pub names_from_lem : (board : Board) (k upper : ℕ) (ps : List Piece) (ls : List (List ℕ)) → 1 ≤ k → Names (first_of (refusals_from board k upper ps ls)) (faulty_from board k upper ps ls)
 names_from_lem board k upper ps [] one = names_missing board k upper ps one
 names_from_lem board k upper ps (l ∷ ls) one =
     by_bool (good_record l)
     (λ good.
-    by_admission (first_of (record_refusals board upper ps (record_in l)))
+    by_answer (first_of (record_refusals board upper ps (record_in l)))
     (λ own.
     by_bool (ends (record_in l))
     (λ e. let p = line-ends board k upper ps l ls good own e in rw (p.0, p.1) (names_end k ps ls one))

@@ -5,9 +5,8 @@ use Prim.Native.Nat.{ℕ, ◌+◌, ◌-◌, ◌*◌}
 use native.Mathlib.Omega.{arith}
 use lib.ListN.{length, take, drop, get_or}
 use borrow.Author.Tests.{eq-eqb, ne_eqb}
-use Rattle.refusal.specs.declared.Admission.TheVariants as admission
-use Rattle.refusal.specs.declared.Done.{Done}
-use Rattle.refusal.specs.declared.Done.TheVariants.{Bytes, Refused}
+use Rattle.std.specs.Prelude.{Result, Ok, Err}
+use Rattle.refusal.specs.declared.Refusal.{Refusal}
 use Rattle.refusal.specs.Order.{first_of}
 use Rattle.refusal.proofs.First.{first-none}
 use Rattle.record.specs.Record.{length_of, offset_of, type_of, data_of}
@@ -36,11 +35,11 @@ data_is r l =
     ap (λ (k : ℕ). take k (drop 4 r)) e
 
 module _ (board : Board) (upper : ℕ) (ps : List Piece) (r : List ℕ) where
-  pub no_data : (get_or r 3 0 ≡ 0 → ⊥) → (first_of (record_refusals board upper ps r) ≡ admission.Admitted) × (given_after upper ps r ≡ ps)
+  pub no_data : (get_or r 3 0 ≡ 0 → ⊥) → (first_of (record_refusals board upper ps r) ≡ Ok tt) × (given_after upper ps r ≡ ps)
   unfolding record_refusals given_after type_of
   no_data t = (rw (ne_eqb (get_or r 3 0) 0 t) first-none, rw (ne_eqb (get_or r 3 0) 0 t))
 
-  pub placed_laid : (d : Done) (a : ℕ) (xs bits image : List ℕ) → get_or r 3 0 ≡ 0 → a ≡ data_address upper r → xs ≡ data_of r → Placed board a xs ps bits image d → RecordPlaced board upper ps r bits image d
+  pub placed_laid : (d : Result ℕ Refusal) (a : ℕ) (xs bits image : List ℕ) → get_or r 3 0 ≡ 0 → a ≡ data_address upper r → xs ≡ data_of r → Placed board a xs ps bits image d → RecordPlaced board upper ps r bits image d
   unfolding record_refusals given_after type_of
-  placed_laid (Refused w) a xs bits image t is «data» h = rw (eq-eqb (get_or r 3 0) 0 t, ← is, ← «data») h
-  placed_laid (Bytes end) a xs bits image t is «data» h = (rw (eq-eqb (get_or r 3 0) 0 t, ← is, ← «data») h.0, rw (eq-eqb (get_or r 3 0) 0 t, ← is, ← «data») h.1)
+  placed_laid (Err w) a xs bits image t is «data» h = rw (eq-eqb (get_or r 3 0) 0 t, ← is, ← «data») h
+  placed_laid (Ok end) a xs bits image t is «data» h = (rw (eq-eqb (get_or r 3 0) 0 t, ← is, ← «data») h.0, rw (eq-eqb (get_or r 3 0) 0 t, ← is, ← «data») h.1)

@@ -8,6 +8,7 @@ use lib.Dec.{eqb}
 use lib.ListN.{length, take, drop, get_or, length-drop}
 use lib.Seq.{get_or-take, get_or-drop, ext_get_or, take_all, length-take-le}
 use borrow.Author.Tests.{eq-eqb, ne_eqb, lt-ltb, le-ltb}
+use Rattle.std.specs.Prelude.{Ok}
 use Rattle.laws.specs.Lists.{all_bytes}
 use Rattle.laws.proofs.Lists.{bytes_take, bytes_drop}
 use Rattle.laws.proofs.Split.{by_lt}
@@ -15,7 +16,6 @@ use Rattle.laws.specs.Lines.{lines_of}
 use Rattle.buffer.specs.Least.{least_of}
 use Rattle.bits.specs.Bits.{any_from, within}
 use Rattle.bits.proofs.Bits.{any_alike, any_nowhere, within_in, within-before, within_behind}
-use Rattle.refusal.specs.declared.Admission.TheVariants.{Admitted}
 use Rattle.refusal.specs.Order.{first_of}
 use Rattle.refusal.proofs.First.{first_on, first-none}
 use Rattle.board.specs.declared.Board.{Board}
@@ -128,7 +128,7 @@ module _ (type offset : ℕ) (xs : List ℕ) (t : type < 256) (o : offset < 6553
   line_type = ap type_of line_record ∙ made_type type offset xs
 
   -- without data nothing is refused, and nothing is given
-  line_own : (board : Board) (up : ℕ) (ps : List Piece) → (type ≡ 0 → ⊥) → (first_of (record_refusals board up ps (record_in (record_line made))) ≡ Admitted) × (given_after up ps (record_in (record_line made)) ≡ ps)
+  line_own : (board : Board) (up : ℕ) (ps : List Piece) → (type ≡ 0 → ⊥) → (first_of (record_refusals board up ps (record_in (record_line made))) ≡ Ok tt) × (given_after up ps (record_in (record_line made)) ≡ ps)
   unfolding type_of
   line_own board up ps z = no_data board up ps (record_in (record_line made)) (λ e. z (sym line_type ∙ e))
 
@@ -205,7 +205,7 @@ module _ (board : Board) (sound : Sound board) (segment : OneSegment board) (xs 
         ap (given ps) (sym e) ∙ g.no_more (a - flash_first board) k)
         ∙ any_nowhere (flash_first board + from) (length xs₀)
 
-    own : first_of (record_refusals board upper ps (record_in l)) ≡ Admitted
+    own : first_of (record_refusals board upper ps (record_in l)) ≡ Ok tt
     unfolding record_refusals
     own = rw (eq-eqb (type_of (record_in l)) 0 type, address, its_data) (fresh board (flash_first board + from) xs₀ ps some inside unseen)
 
@@ -232,7 +232,7 @@ module _ (board : Board) (sound : Sound board) (segment : OneSegment board) (xs 
 
   -- the end record, where all bytes are given
   module _ (one : 1 ≤ length xs) where
-    ending : (k : ℕ) (ps : List Piece) → Gives board xs (length xs) ps → (first_of (refusals_from board k upper ps (lines_of end_line)) ≡ Admitted) × (pieces_from upper ps (lines_of end_line) ≡ ps)
+    ending : (k : ℕ) (ps : List Piece) → Gives board xs (length xs) ps → (first_of (refusals_from board k upper ps (lines_of end_line)) ≡ Ok tt) × (pieces_from upper ps (lines_of end_line) ≡ ps)
     unfolding suits all_bytes ends lines_of
     ending k ps g =
         let z : length xs ≡ 0 → ⊥ = λ z. omega arith in
@@ -246,7 +246,7 @@ module _ (board : Board) (sound : Sound board) (segment : OneSegment board) (xs 
 
     -- what is left of the data, and the end record
     record Over (k : ℕ) (ps : List Piece) (s : List ℕ) : Type 0 where
-      free : first_of (refusals_from board k upper ps (lines_of s)) ≡ Admitted
+      free : first_of (refusals_from board k upper ps (lines_of s)) ≡ Ok tt
       all : Gives board xs (length xs) (pieces_from upper ps (lines_of s))
 
     over_end : (from k : ℕ) (ps : List Piece) → length xs ≤ from → Gives board xs (least_of from (length xs)) ps → Over k ps (left xs from ++ end_line)
@@ -305,7 +305,7 @@ module _ (board : Board) (sound : Sound board) (segment : OneSegment board) (xs 
         let m : length xs ≤ 0 + length xs * 16 = omega arith in
         rw (sym (left_start xs)) (over_data (length xs) 0 2 [] m g)
 
-    pub text_free : first_of (hex_read_refusals board (hex_text board xs)) ≡ Admitted
+    pub text_free : first_of (hex_read_refusals board (hex_text board xs)) ≡ Ok tt
     text_free = first-line.0 ∙ over-text.free
 
     pub text_image : image_of board (pieces_in (hex_text board xs)) ≡ xs

@@ -9,16 +9,13 @@ use lib.Dec.{eqb}
 use lib.ListN.{length, take, drop, length-drop, drop_of_length-le}
 use lib.Seq.{drop-drop}
 use borrow.Author.Tests.{eq-eqb, ne_eqb}
+use Rattle.std.specs.Prelude.{⊤, Result, Ok, Err}
 use Rattle.laws.proofs.Bytes.{rest_is as whole-rest}
 use Rattle.laws.proofs.Split.{by_eq}
 use Rattle.laws.specs.Lines.{first_line, lines_of}
 use Rattle.laws.proofs.Lines.{lines_first, first-length}
 use Rattle.refusal.specs.declared.Refusal.{Refusal}
 use Rattle.refusal.specs.declared.Refusal.TheVariants.{Record, Unended, Empty}
-use Rattle.refusal.specs.declared.Admission.{Admission}
-use Rattle.refusal.specs.declared.Admission.TheVariants as admission
-use Rattle.refusal.specs.declared.Done.{Done}
-use Rattle.refusal.specs.declared.Done.TheVariants.{Bytes, Refused}
 use Rattle.refusal.specs.Order.{first_of}
 use Rattle.refusal.specs.Delivery.{counted}
 use Rattle.refusal.proofs.First.{first-here, first_on, first-none, first-append, refused_not}
@@ -30,8 +27,8 @@ use Rattle.pieces.specs.Refusals.{none}
 use Rattle.pieces.specs.Ways.{Holds}
 use Rattle.pieces.proofs.Images.{image_length, image_front}
 use Rattle.ihex.specs.Reading.{upper_after, given_after, ends, record_refusals, line_refusals, end_refusals, refusals_from, pieces_from, hex_read_refusals, pieces_in, faulty_end, faulty_from, faulty_line}
-use Rattle.ihex.specs.declared.Walked.{Walked}
-use Rattle.ihex.specs.Ways.{RecordPlaced, stopped_of, ended_of, Walks}
+use Rattle.ihex.specs.declared.Fault.{Fault}
+use Rattle.ihex.specs.Ways.{RecordPlaced, stopped_of, without_line, line_at_fault, ended_of, Walks}
 use Rattle.ihex.proofs.Laying.{no_data}
 use Rattle.board.specs.declared.Board.{Board}
 
@@ -48,11 +45,11 @@ pub sofar_start : (board : Board) (t bits image : List ℕ) → Holds board [] b
 sofar_start board t bits image h = record { refusals = refl; line = refl; pieces = refl; holds = h; within = omega arith; numbered = omega arith }
 
 -- a fault ends the walk
-pub stops : (board : Board) (t image : List ℕ) (why : Refusal) (k : ℕ) (w : Walked) → w ≡ stopped_of why k → first_of (hex_read_refusals board t) ≡ admission.Refused why → faulty_line board t ≡ k → Walks board t w image
+pub stops : (board : Board) (t image : List ℕ) (why : Refusal) (k : ℕ) (w : Result ℕ Fault) → w ≡ stopped_of why k → first_of (hex_read_refusals board t) ≡ Err why → faulty_line board t ≡ k → Walks board t w image
 stops board t image why k w is e f =
     record {
-      answer = ap (λ (x : Walked). x.done) is ∙ sym (ap (λ (a : Admission). counted a (length (image_of board (pieces_in t)))) e);
-      line = ap (λ (x : Walked). x.line) is ∙ sym f;
+      answer = ap without_line is ∙ sym (ap (λ (a : Result ⊤ Refusal). counted a (length (image_of board (pieces_in t)))) e);
+      line = ap line_at_fault is ∙ sym f;
       front = λ z. refused_not why (sym e ∙ z);
     }
 
@@ -61,34 +58,34 @@ module _ (board : Board) (k upper : ℕ) (ps : List Piece) (l : List ℕ) (ls : 
   rest : List (Refusal × Bool)
   rest = cond (ends (record_in l)) (end_refusals ps ls) (refusals_from board (suc k) (upper_after upper (record_in l)) (given_after upper ps (record_in l)) ls)
 
-  pub line_bad : good_record l ≡ false → (first_of (refusals_from board k upper ps (l ∷ ls)) ≡ admission.Refused (Record k)) × (faulty_from board k upper ps (l ∷ ls) ≡ k)
+  pub line_bad : good_record l ≡ false → (first_of (refusals_from board k upper ps (l ∷ ls)) ≡ Err (Record k)) × (faulty_from board k upper ps (l ∷ ls) ≡ k)
   unfolding refusals_from line_refusals faulty_from
   line_bad b =
-      let first : (zs : List (Refusal × Bool)) → first_of ((Record k, not (good_record l)) ∷ zs) ≡ admission.Refused (Record k) = λ zs. first-here _ _ _ (rw b) in
+      let first : (zs : List (Refusal × Bool)) → first_of ((Record k, not (good_record l)) ∷ zs) ≡ Err (Record k) = λ zs. first-here _ _ _ (rw b) in
       (first _, rw (first (record_refusals board upper ps (record_in l))))
 
   module _ (good : good_record l ≡ true) where
-    line_own : (a : Admission) → first_of (record_refusals board upper ps (record_in l)) ≡ a → first_of (line_refusals board k upper ps l) ≡ a
+    line_own : (a : Result ⊤ Refusal) → first_of (record_refusals board upper ps (record_in l)) ≡ a → first_of (line_refusals board k upper ps l) ≡ a
     unfolding line_refusals
     line_own a e = first_on _ _ _ (rw good) ∙ e
 
-    pub line_refused : (why : Refusal) → first_of (record_refusals board upper ps (record_in l)) ≡ admission.Refused why → (first_of (refusals_from board k upper ps (l ∷ ls)) ≡ admission.Refused why) × (faulty_from board k upper ps (l ∷ ls) ≡ k)
+    pub line_refused : (why : Refusal) → first_of (record_refusals board upper ps (record_in l)) ≡ Err why → (first_of (refusals_from board k upper ps (l ∷ ls)) ≡ Err why) × (faulty_from board k upper ps (l ∷ ls) ≡ k)
     unfolding refusals_from faulty_from rest
     line_refused why e =
-        let own = line_own (admission.Refused why) e in
-        (first-append (line_refusals board k upper ps l) rest (admission.Refused why) own, rw own)
+        let own = line_own (Err why) e in
+        (first-append (line_refusals board k upper ps l) rest (Err why) own, rw own)
 
-    module _ (none-own : first_of (record_refusals board upper ps (record_in l)) ≡ admission.Admitted) where
-      own : first_of (line_refusals board k upper ps l) ≡ admission.Admitted
-      own = line_own admission.Admitted none-own
+    module _ (none-own : first_of (record_refusals board upper ps (record_in l)) ≡ Ok tt) where
+      own : first_of (line_refusals board k upper ps l) ≡ Ok tt
+      own = line_own (Ok tt) none-own
 
       pub line_goes_on : ends (record_in l) ≡ false → (first_of (refusals_from board k upper ps (l ∷ ls)) ≡ first_of (refusals_from board (suc k) (upper_after upper (record_in l)) (given_after upper ps (record_in l)) ls)) × (faulty_from board k upper ps (l ∷ ls) ≡ faulty_from board (suc k) (upper_after upper (record_in l)) (given_after upper ps (record_in l)) ls) × (pieces_from upper ps (l ∷ ls) ≡ pieces_from (upper_after upper (record_in l)) (given_after upper ps (record_in l)) ls)
       unfolding refusals_from faulty_from pieces_from rest
-      line_goes_on e = (first-append (line_refusals board k upper ps l) rest admission.Admitted own ∙ rw e, rw (own, e), rw e)
+      line_goes_on e = (first-append (line_refusals board k upper ps l) rest (Ok tt) own ∙ rw e, rw (own, e), rw e)
 
       pub line-ends : ends (record_in l) ≡ true → (first_of (refusals_from board k upper ps (l ∷ ls)) ≡ first_of (end_refusals ps ls)) × (faulty_from board k upper ps (l ∷ ls) ≡ faulty_end k ps ls) × (pieces_from upper ps (l ∷ ls) ≡ ps)
       unfolding refusals_from faulty_from pieces_from rest
-      line-ends e = (first-append (line_refusals board k upper ps l) rest admission.Admitted own ∙ rw e, rw (own, e), rw e)
+      line-ends e = (first-append (line_refusals board k upper ps l) rest (Ok tt) own ∙ rw e, rw (own, e), rw e)
 
 -- there are lines where there are bytes
 lines_none : (v : List ℕ) → none (lines_of v) ≡ eqb (length v) 0
@@ -100,7 +97,7 @@ lines_none (x ∷ v) =
     ap none (lines_first (x ∷ v) h) ∙ sym (ne_eqb (length (x ∷ v)) 0 z)
 
 -- the end record: what stands behind it, and what was given, decide
-module _ (board : Board) (t bits image : List ℕ) (ps : List Piece) (end k left : ℕ) (ls : List (List ℕ)) (w : Walked) (is : w ≡ ended_of left end k) (h : Holds board ps bits image end) (behind : none ls ≡ eqb left 0) (refusals : first_of (end_refusals ps ls) ≡ first_of (hex_read_refusals board t)) (line : faulty_end k ps ls ≡ faulty_line board t) (pieces : ps ≡ pieces_in t) where
+module _ (board : Board) (t bits image : List ℕ) (ps : List Piece) (end k left : ℕ) (ls : List (List ℕ)) (w : Result ℕ Fault) (is : w ≡ ended_of left end k) (h : Holds board ps bits image end) (behind : none ls ≡ eqb left 0) (refusals : first_of (end_refusals ps ls) ≡ first_of (hex_read_refusals board t)) (line : faulty_end k ps ls ≡ faulty_line board t) (pieces : ps ≡ pieces_in t) where
   text_behind : (left ≡ 0 → ⊥) → Walks board t w image
   unfolding ended_of
   text_behind z =
@@ -127,13 +124,13 @@ module _ (board : Board) (t bits image : List ℕ) (ps : List Piece) (end k left
     image_there y =
         let b = last in
         let p : none ps ≡ false = h.some ∙ ne_eqb end 0 y in
-        let e : ended_of left end k ≡ record { done = Bytes end; line = 0 } = rw (eq-eqb left 0 z, ne_eqb end 0 y) in
+        let e : ended_of left end k ≡ Ok end = rw (eq-eqb left 0 z, ne_eqb end 0 y) in
         let f : faulty_end k ps ls ≡ 0 = rw (b, p) in
-        let free : first_of (hex_read_refusals board t) ≡ admission.Admitted = sym refusals ∙ first_on _ _ _ (rw b) ∙ first_on _ _ _ p ∙ first-none in
+        let free : first_of (hex_read_refusals board t) ≡ Ok tt = sym refusals ∙ first_on _ _ _ (rw b) ∙ first_on _ _ _ p ∙ first-none in
         let l : length (image_of board (pieces_in t)) ≡ end = ap (λ (qs : List Piece). length (image_of board qs)) (sym pieces) ∙ image_length h in
         record {
-          answer = ap (λ (x : Walked). x.done) (is ∙ e) ∙ ap Bytes (sym l) ∙ sym (ap (λ (a : Admission). counted a (length (image_of board (pieces_in t)))) free);
-          line = ap (λ (x : Walked). x.line) (is ∙ e) ∙ sym f ∙ line;
+          answer = ap without_line (is ∙ e) ∙ ap Ok (sym l) ∙ sym (ap (λ (a : Result ⊤ Refusal). counted a (length (image_of board (pieces_in t)))) free);
+          line = ap line_at_fault (is ∙ e) ∙ sym f ∙ line;
           front = λ x. rw pieces at (image_front h);
         }
 
@@ -143,7 +140,7 @@ module _ (board : Board) (t bits image : List ℕ) (ps : List Piece) (end k left
 -- from a place of the text on
 module _ {board : Board} {t bits image : List ℕ} {at k upper end : ℕ} {ps : List Piece} (s : Sofar board t at k upper end bits image ps) where
   -- no line is left
-  pub walk_over : length t ≤ at → (first_of (hex_read_refusals board t) ≡ admission.Refused Unended) × (faulty_line board t ≡ k)
+  pub walk_over : length t ≤ at → (first_of (hex_read_refusals board t) ≡ Err Unended) × (faulty_line board t ≡ k)
   unfolding lines_of refusals_from faulty_from
   walk_over h =
       let e : lines_of (drop at t) ≡ [] = ap lines_of (drop_of_length-le t h) in
@@ -171,11 +168,11 @@ module _ {board : Board} {t bits image : List ℕ} {at k upper end : ℕ} {ps : 
     pieces : pieces_from upper ps (l ∷ ls) ≡ pieces_in t
     pieces = sym (ap (pieces_from upper ps) lines) ∙ s.pieces
 
-    pub walk_bad : good_record l ≡ false → (first_of (hex_read_refusals board t) ≡ admission.Refused (Record k)) × (faulty_line board t ≡ k)
+    pub walk_bad : good_record l ≡ false → (first_of (hex_read_refusals board t) ≡ Err (Record k)) × (faulty_line board t ≡ k)
     walk_bad b = let p = line_bad board k upper ps l ls b in (sym refusals ∙ p.0, sym faulty ∙ p.1)
 
     module _ (good : good_record l ≡ true) where
-      pub walk_refused : (why : Refusal) → first_of (record_refusals board upper ps (record_in l)) ≡ admission.Refused why → (first_of (hex_read_refusals board t) ≡ admission.Refused why) × (faulty_line board t ≡ k)
+      pub walk_refused : (why : Refusal) → first_of (record_refusals board upper ps (record_in l)) ≡ Err why → (first_of (hex_read_refusals board t) ≡ Err why) × (faulty_line board t ≡ k)
       walk_refused why e = let p = line_refused board k upper ps l ls good why e in (sym refusals ∙ p.0, sym faulty ∙ p.1)
 
       module _ (line : ℕ) (is : line ≡ length l) where
@@ -185,7 +182,7 @@ module _ {board : Board} {t bits image : List ℕ} {at k upper end : ℕ} {ps : 
         pub line-within : at + line ≤ length t
         line-within = let f = first-length (drop at t) in let d = size in omega arith
 
-        pub walk_on : (bits' image' : List ℕ) (upper' end' : ℕ) → 12 ≤ length l → (type_of (record_in l) ≡ 1 → ⊥) → first_of (record_refusals board upper ps (record_in l)) ≡ admission.Admitted → Holds board (given_after upper ps (record_in l)) bits' image' end' → upper' ≡ upper_after upper (record_in l) → Sofar board t (at + line) (k + 1) upper' end' bits' image' (given_after upper ps (record_in l))
+        pub walk_on : (bits' image' : List ℕ) (upper' end' : ℕ) → 12 ≤ length l → (type_of (record_in l) ≡ 1 → ⊥) → first_of (record_refusals board upper ps (record_in l)) ≡ Ok tt → Holds board (given_after upper ps (record_in l)) bits' image' end' → upper' ≡ upper_after upper (record_in l) → Sofar board t (at + line) (k + 1) upper' end' bits' image' (given_after upper ps (record_in l))
         unfolding ends
         walk_on bits' image' upper' end' long type none-own holds up =
             let p = line_goes_on board k upper ps l ls good none-own (ne_eqb (type_of (record_in l)) 1 type) in
@@ -201,7 +198,7 @@ module _ {board : Board} {t bits image : List ℕ} {at k upper end : ℕ} {ps : 
               numbered = let g : suc k * 2 ≤ at + line + 2 = omega arith in g;
             })
 
-        pub walk_ends : (w : Walked) → type_of (record_in l) ≡ 1 → w ≡ ended_of (length t - at - line) end k → Walks board t w image
+        pub walk_ends : (w : Result ℕ Fault) → type_of (record_in l) ≡ 1 → w ≡ ended_of (length t - at - line) end k → Walks board t w image
         unfolding ends type_of
         walk_ends w type we =
             let own = (no_data board upper ps (record_in l) (λ z. let x : 0 ≡ 1 = sym z ∙ type in omega arith)).0 in
@@ -221,8 +218,8 @@ line_bad_read t at line more e z =
     bad_record (drop at t) some (sym (e ∙ ap record_line_length (whole-rest at t)) ∙ z)
 
 -- what a call of `lay` tells, by its answer
-pub laid_refused : (board : Board) (upper : ℕ) (ps : List Piece) (r r' bits image : List ℕ) (d : Done) (why : Refusal) → r ≡ r' → d ≡ Refused why → RecordPlaced board upper ps r bits image d → first_of (record_refusals board upper ps r') ≡ admission.Refused why
+pub laid_refused : (board : Board) (upper : ℕ) (ps : List Piece) (r r' bits image : List ℕ) (d : Result ℕ Refusal) (why : Refusal) → r ≡ r' → d ≡ Err why → RecordPlaced board upper ps r bits image d → first_of (record_refusals board upper ps r') ≡ Err why
 laid_refused board upper ps r r' bits image d why e f h = rw (e, f) at h
 
-pub laid-bytes : (board : Board) (upper : ℕ) (ps : List Piece) (r r' bits image : List ℕ) (d : Done) (end : ℕ) → r ≡ r' → d ≡ Bytes end → RecordPlaced board upper ps r bits image d → (first_of (record_refusals board upper ps r') ≡ admission.Admitted) × Holds board (given_after upper ps r') bits image end
+pub laid-bytes : (board : Board) (upper : ℕ) (ps : List Piece) (r r' bits image : List ℕ) (d : Result ℕ Refusal) (end : ℕ) → r ≡ r' → d ≡ Ok end → RecordPlaced board upper ps r bits image d → (first_of (record_refusals board upper ps r') ≡ Ok tt) × Holds board (given_after upper ps r') bits image end
 laid-bytes board upper ps r r' bits image d end e f h = rw (e, f) at h

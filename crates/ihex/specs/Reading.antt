@@ -1,10 +1,8 @@
 -- What a HEX text gives, what is wrong with it, and what the reader answers. Document 02, CR 1. Assumes nothing.
-use Rattle.std.specs.Prelude.{Bool, true, false, not, cond, List, [], ◌∷◌, ◌++◌, ℕ, suc, ◌+◌, ◌*◌, eqb, get_or}
+use Rattle.std.specs.Prelude.{Bool, true, false, not, cond, List, [], ◌∷◌, ◌++◌, ℕ, suc, ◌+◌, ◌*◌, eqb, get_or, ⊤, Result, Ok, Err}
 use Rattle.laws.specs.Lines.{lines_of}
 use Rattle.refusal.specs.declared.Refusal.{Refusal}
 use Rattle.refusal.specs.declared.Refusal.TheVariants.{Record, Unended, Empty}
-use Rattle.refusal.specs.declared.Admission.{Admission}
-use Rattle.refusal.specs.declared.Admission.TheVariants.{Admitted, Refused}
 use Rattle.refusal.specs.Order.{first_of}
 use Rattle.refusal.specs.Delivery.{Delivery, delivered}
 use Rattle.record.specs.Record.{record_in, offset_of, offset_count, type_of, data_of, good_record}
@@ -67,9 +65,9 @@ unfoldable pub hex_read : Board → List ℕ → List ℕ → Delivery
 hex_read board t out = delivered (hex_read_refusals board t) (image_of board (pieces_in t)) out
 
 -- does one of these apply?
-abbrev pub applies : Admission → Bool
-applies Admitted = false
-applies (Refused r) = true
+abbrev pub applies : Result ⊤ Refusal → Bool
+applies (Ok _) = false
+applies (Err r) = true
 
 -- at the end record, line number k: the line behind it, or itself where there are no data; 0 where nothing is wrong
 abbrev pub faulty_end : ℕ → List Piece → List (List ℕ) → ℕ

@@ -12,7 +12,7 @@ ghost use Rattle.ihex.specs.Writing.{hex_text, hex_written};
 ghost use Rattle.ihex.specs.Ways.{RecordPlaces, stopped_of, ended_of, Walks, OneSegment, data_text, text_bytes};
 
 use board::Board;
-use refusal::{Done, Refusal};
+use refusal::Refusal;
 
 // A bit for each byte of the logger's flash.
 const MARKS: usize = (Board::LOGGER_FLASH + 7) / 8;
@@ -31,11 +31,19 @@ pub const LONGEST: usize = OUTER
     + (Board::LOGGER_FLASH + (RECORD - 1)) / RECORD * record::LINE
     + Board::LOGGER_FLASH * 2;
 
-// The end of a walk over a text: how long its image is, or why it has none; and the line at fault, or 0.
+// Why a text gives no image, and the number of the line at fault.
 #[derive(Clone, Copy)]
-pub struct Walked {
-    pub done: Done,
+pub struct Fault {
+    pub why: Refusal,
     pub line: usize,
+}
+
+impl From<Fault> for Refusal {
+    ghost from_gives = { λ fault why. why ≡ fault.why };
+
+    fn from(fault: Fault) -> Refusal {
+        fault.why
+    }
 }
 
 // The address of a record's first byte.
@@ -65,29 +73,26 @@ fn lay(
     end: usize,
     given: &mut [u8],
     image: &mut [u8],
-) -> Done
+) -> Result<usize, Refusal>
     requires { (length «record».now ≡ 5 + length_of «record».now) × (flash_bytes board ≤ length given.old * 8) × (length image.old ≡ flash_bytes board) }
     ensures { RecordPlaces board upper «record».now end given.old image.old given.new image.new result }
 {
     if record[3] != record::DATA {
-        return Done::Bytes(end);
+        return Ok(end);
     }
     let from = address(upper, record);
     let to = record.len() - 1;
     pieces::place(board, from, &record[4..to], end, given, image)
 }
 
-fn stopped(why: Refusal, line: usize) -> Walked
+fn stopped(why: Refusal, line: usize) -> Result<usize, Fault>
     ensures { result ≡ stopped_of why line }
 {
-    Walked {
-        done: Done::Refused(why),
-        line,
-    }
+    Err(Fault { why, line })
 }
 
 // At the end record, which is line `number`: `left` bytes stand behind it, and the image ends at `end`.
-fn ended(left: usize, end: usize, number: usize) -> Walked
+fn ended(left: usize, end: usize, number: usize) -> Result<usize, Fault>
     requires { number + 1 < 2 ^ 64 }
     ensures { result ≡ ended_of left end number }
 {
@@ -97,14 +102,18 @@ fn ended(left: usize, end: usize, number: usize) -> Walked
     if end == 0 {
         return stopped(Refusal::Empty, number);
     }
-    Walked {
-        done: Done::Bytes(end),
-        line: 0,
-    }
+    Ok(end)
 }
 
-// Walks over a text, line by line, and lays its data into the image; `given` has a bit for each byte that was.
-fn walk(board: Board, text: &[u8], record: &mut [u8], given: &mut [u8], image: &mut [u8]) -> Walked
+// Walks over a text, line by line, and lays its data into the image, which ends at the place that it gives; `given` has
+// a bit for each byte that was.
+fn walk(
+    board: Board,
+    text: &[u8],
+    record: &mut [u8],
+    given: &mut [u8],
+    image: &mut [u8],
+) -> Result<usize, Fault>
     requires { (260 ≤ length «record».old) × Holds board [] given.old image.old 0 }
     ensures { Walks board text.now result image.new }
 {
@@ -121,14 +130,9 @@ fn walk(board: Board, text: &[u8], record: &mut [u8], given: &mut [u8], image: &
         if record[3] == record::END {
             return ended(text.len() - at - line, end, number);
         }
-        let done = lay(board, upper, &record[0..size], end, given, image);
-        match done {
-            Done::Refused(why) => {
-                return stopped(why, number);
-            }
-            Done::Bytes(to) => {
-                end = to;
-            }
+        match lay(board, upper, &record[0..size], end, given, image) {
+            Ok(to) => end = to,
+            Err(why) => return stopped(why, number),
         }
         upper = upper_after(upper, &record[0..size]);
         at += line;
@@ -138,24 +142,18 @@ fn walk(board: Board, text: &[u8], record: &mut [u8], given: &mut [u8], image: &
 }
 
 // Reads a HEX text: its image goes to the front of `out`.
-pub fn read(text: &[u8], out: &mut [u8]) -> Done
+pub fn read(text: &[u8], out: &mut [u8]) -> Result<usize, Refusal>
     ensures { delivery result out.new ≡ hex_read logger text.now out.old }
 {
     let mut record = [0u8; record::ROOM];
     let mut given = [0u8; MARKS];
     let mut image = [GAP; Board::LOGGER_FLASH];
-    let walked = walk(Board::LOGGER, text, &mut record, &mut given, &mut image);
-    let done = walked.done;
-    match done {
-        Done::Refused(why) => Done::Refused(why),
-        Done::Bytes(size) => {
-            if out.len() < size {
-                return Done::Refused(Refusal::Output);
-            }
-            buffer::put(out, 0, &image[0..size]);
-            Done::Bytes(size)
-        }
+    let count = walk(Board::LOGGER, text, &mut record, &mut given, &mut image)?;
+    if out.len() < count {
+        return Err(Refusal::Output);
     }
+    buffer::put(out, 0, &image[0..count]);
+    Ok(count)
 }
 
 // The number of a text's first faulty line, from 1, or 0 where it has none. Where the end record is missing, it is that
@@ -166,7 +164,10 @@ pub fn faulty_line(text: &[u8]) -> usize
     let mut record = [0u8; record::ROOM];
     let mut given = [0u8; MARKS];
     let mut image = [GAP; Board::LOGGER_FLASH];
-    walk(Board::LOGGER, text, &mut record, &mut given, &mut image).line
+    match walk(Board::LOGGER, text, &mut record, &mut given, &mut image) {
+        Ok(_) => 0,
+        Err(fault) => fault.line,
+    }
 }
 
 // How long the text of an image is: the two lines around the data, and for each record of them its frame.
@@ -205,23 +206,23 @@ fn spell(board: Board, image: &[u8], out: &mut [u8])
 }
 
 // Writes an image as HEX for a board.
-fn write_for(board: Board, image: &[u8], out: &mut [u8]) -> Done
+fn write_for(board: Board, image: &[u8], out: &mut [u8]) -> Result<usize, Refusal>
     requires { OneSegment board }
     ensures { delivery result out.new ≡ hex_written board image.now out.old }
 {
     if board.unfit(image.len()) {
-        return Done::Refused(Refusal::Image);
+        return Err(Refusal::Image);
     }
     let size = text_size(image);
     if out.len() < size {
-        return Done::Refused(Refusal::Output);
+        return Err(Refusal::Output);
     }
     spell(board, image, out);
-    Done::Bytes(size)
+    Ok(size)
 }
 
 // Writes an image as HEX to the front of `out`.
-pub fn write(image: &[u8], out: &mut [u8]) -> Done
+pub fn write(image: &[u8], out: &mut [u8]) -> Result<usize, Refusal>
     ensures { delivery result out.new ≡ hex_written logger image.now out.old }
 {
     write_for(Board::LOGGER, image, out)

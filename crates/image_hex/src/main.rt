@@ -4,7 +4,7 @@
 
 use board::Board;
 use files::{Stream, System};
-use refusal::{Done, Refusal};
+use refusal::Refusal;
 use verdict::Verdict;
 
 // One byte more than an image may have, so that a longer file shows as such.
@@ -27,10 +27,9 @@ fn refuse(rt: &impl System, why: Refusal, template: &[u8], numbers: &[usize]) {
 // Writes the text of an image.
 fn perform(rt: &impl System, image: &[u8]) {
     let mut text = [0u8; ihex::LONGEST];
-    let done = ihex::write(image, &mut text);
-    match done {
-        Done::Bytes(size) => files::write(rt, Stream::Out, &text, size),
-        Done::Refused(why) => refuse(
+    match ihex::write(image, &mut text) {
+        Ok(size) => files::write(rt, Stream::Out, &text, size),
+        Err(why) => refuse(
             rt,
             why,
             b"The image [is empty|has more bytes than the flash]. Give an image of 1 to # bytes.\n",

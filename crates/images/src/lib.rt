@@ -8,7 +8,7 @@ ghost use Rattle.std.specs.Prelude.{◌≡◌, true, false, ◌≤◌, length};
 ghost use Rattle.files.specs.Came.{Came};
 
 use files::{Fault, Got, Stream, System};
-use refusal::{Done, Refusal};
+use refusal::Refusal;
 use verdict::Verdict;
 
 // A byte more than a HEX text may have shows one that is too long.
@@ -66,9 +66,9 @@ fn refuse(rt: &impl System, to: Stream, much: usize, why: Refusal, text: &[u8]) 
 }
 
 // The image that the text gives goes to the front of `image`; a text that is too long is refused.
-fn read(text: &[u8], image: &mut [u8]) -> Done {
+fn read(text: &[u8], image: &mut [u8]) -> Result<usize, Refusal> {
     if hexwords::MOST < text.len() {
-        return Done::Refused(Refusal::File);
+        return Err(Refusal::File);
     }
     ihex::read(text, image)
 }
@@ -77,16 +77,15 @@ fn read(text: &[u8], image: &mut [u8]) -> Done {
 fn lay(rt: &impl System, to: Stream, much: usize, text: &[u8], image: &mut [u8]) -> Got
     ensures { (result.count ≤ length image.new) × (result.is_opened ≡ true) × (result.is_read ≡ false → result.count ≡ 0) }
 {
-    let done = read(text, image);
-    match done {
-        Done::Bytes(count) => Got {
+    match read(text, image) {
+        Ok(count) => Got {
             is_named: false,
             is_opened: true,
             is_read: true,
             count: buffer::least(count, image.len()),
             fault: Fault::None,
         },
-        Done::Refused(why) => {
+        Err(why) => {
             refuse(rt, to, much, why, text);
             refused()
         }

@@ -6,9 +6,9 @@ use Prim.Native.Nat.{ℕ, suc, ◌+◌, ◌-◌, ◌*◌, ◌/◌, ◌≤◌, �
 use native.Mathlib.Omega.{arith}
 use lib.ListN.{length, take, drop, length-append, drop_of_length-le}
 use borrow.Author.Tests.{lt-ltb, le-ltb}
+use Rattle.std.specs.Prelude.{Ok, Err}
 use Rattle.laws.proofs.Split.{by_lt}
 use Rattle.refusal.specs.declared.Refusal.TheVariants.{Text, Line}
-use Rattle.refusal.specs.declared.Done.TheVariants.{Bytes, Refused}
 use Rattle.laws.specs.Lines.{first_line, lines_of}
 use Rattle.line.specs.Line.{event_of, well_spelled}
 use Rattle.text.specs.Text.{limit, bad_from, first_bad, events_in, events_of}
@@ -54,21 +54,21 @@ module _ (t : List ℕ) (at line : ℕ) (more : at < length t) (is : line ≡ li
       omega arith
 
 -- the end of a walk that has found no malformed line, and of one that has
-pub walk_end : (t : List ℕ) (at number size : ℕ) → length t ≤ limit → length t ≤ at → bad_from number (lines_of (drop at t)) ≡ first_bad t → size + length (packed_of (events_of (drop at t))) ≡ length (packed_of (events_of t)) → Bytes size ≡ measure_of t
+pub walk_end : (t : List ℕ) (at number size : ℕ) → length t ≤ limit → length t ≤ at → bad_from number (lines_of (drop at t)) ≡ first_bad t → size + length (packed_of (events_of (drop at t))) ≡ length (packed_of (events_of t)) → Ok size ≡ measure_of t
 unfolding measure_of bad_from lines_of packed_of events_of events_in
 walk_end t at number size short h b s =
     let d : drop at t ≡ [] = drop_of_length-le t h in
     let z : 0 ≡ first_bad t = rw d at b in
     let n : size + 0 ≡ length (packed_of (events_in (lines_of t))) = rw d at s in
     let k : size ≡ length (packed_of (events_in (lines_of t))) = omega arith in
-    rw (text_good t short (sym z)) (ap Bytes k)
+    rw (text_good t short (sym z)) (ap Ok k)
 
-pub walk_bad : (t : List ℕ) (number : ℕ) → length t ≤ limit → 1 ≤ number → number ≡ first_bad t → Refused (Line number) ≡ measure_of t
+pub walk_bad : (t : List ℕ) (number : ℕ) → length t ≤ limit → 1 ≤ number → number ≡ first_bad t → Err (Line number) ≡ measure_of t
 unfolding measure_of
 walk_bad t number short h e =
     let n : first_bad t ≡ 0 → ⊥ = λ z. omega arith in
-    rw (text_bad t short n) (ap (λ (k : ℕ). Refused (Line k)) e)
+    rw (text_bad t short n) (ap (λ (k : ℕ). Err (Line k)) e)
 
-pub measure_long : (t : List ℕ) → limit < length t → Refused Text ≡ measure_of t
+pub measure_long : (t : List ℕ) → limit < length t → Err Text ≡ measure_of t
 unfolding measure_of
 measure_long t h = rw (text_long t h)

@@ -5,12 +5,12 @@ use mathlib.Core.List.{List, [], ◌∷◌, map}
 use mathlib.Core.Logic.{◌⊎◌, ⊎_elim}
 use Prim.Native.Nat.{ℕ, suc, ◌≤◌, ◌<◌}
 use lib.ListN.{length, take, get_or}
+use Rattle.std.specs.Prelude.{Result, Ok, Err}
 use Rattle.laws.specs.Bytes.{put}
 use Rattle.laws.proofs.Append.{take_put}
 use Rattle.laws.specs.Lists.{all_bytes}
+use Rattle.refusal.specs.declared.Refusal.{Refusal}
 use Rattle.refusal.specs.declared.Refusal.TheVariants.{Line}
-use Rattle.refusal.specs.declared.Done.{Done}
-use Rattle.refusal.specs.declared.Done.TheVariants.{Bytes, Refused}
 use Rattle.line.specs.Event.{Event}
 use Rattle.laws.specs.Lines.{lines_of}
 use Rattle.digit.specs.Digit.{capital_of}
@@ -85,12 +85,12 @@ one_spelling t u h k = (
 )
 
 -- Within the limit, the reader gives 10 where the capital spelling is the text of no list of proper events.
-pub refused_if_none : (t out : List ℕ) → length t ≤ limit → ((es : List Event) → proper es ≡ true → text_of es ≡ capital_text t → ⊥) → read_of t out ≡ delivery (Refused (Line (first_bad t))) out
+pub refused_if_none : (t out : List ℕ) → length t ≤ limit → ((es : List Event) → proper es ≡ true → text_of es ≡ capital_text t → ⊥) → read_of t out ≡ delivery (Err (Line (first_bad t))) out
 unfolding read_of
 refused_if_none t out h n = sym (delivers_refusal (text_refusals t) _ out _ (text_bad t h (λ z. n (events_of t) (good_proper t z) (good_text t z))))
 
 -- And only there: where the reader gives 10, whatever the line, no list of proper events has this text, in any spelling.
-pub refused_only_if_none : (t out : List ℕ) (k : ℕ) → read_of t out ≡ delivery (Refused (Line k)) out → (es : List Event) → proper es ≡ true → text_of es ≡ capital_text t → ⊥
+pub refused_only_if_none : (t out : List ℕ) (k : ℕ) → read_of t out ≡ delivery (Err (Line k)) out → (es : List Event) → proper es ≡ true → text_of es ≡ capital_text t → ⊥
 refused_only_if_none t out k e es p s = never_ten t out k (events_text_well_formed t es p s) e
 
 -- The line that is named is malformed, and every line before it is well formed. Lines are counted from 1.
@@ -99,7 +99,7 @@ unfolding first_bad
 first_malformed t i e = named_from_one (lines_of t) i e
 
 -- Reading what the writer wrote gives the packed list back, and its length.
-pub reading_what_was_written : (p out back : List ℕ) (n : ℕ) → all_bytes p ≡ true → length p ≤ length back → (write_of p out).answer ≡ 0 ∷ n ∷ [] → read_of (take n (write_of p out).buffer) back ≡ delivery (Bytes (length p)) (put 0 p back)
+pub reading_what_was_written : (p out back : List ℕ) (n : ℕ) → all_bytes p ≡ true → length p ≤ length back → (write_of p out).answer ≡ 0 ∷ n ∷ [] → read_of (take n (write_of p out).buffer) back ≡ delivery (Ok (length p)) (put 0 p back)
 unfolding read_of
 reading_what_was_written p out back n y room e =
     let w = write_bytes p out n e in
@@ -111,7 +111,7 @@ reading_what_was_written p out back n y room e =
     ap (λ (x : List ℕ). read_of x back) t ∙ ap (λ (l : List ℕ). delivered (text_refusals (text_of (unpacked p))) l back) r ∙ delivers_output _ p back free room
 
 -- Writing what the reader read gives the capital spelling of the text, and its length, which is the text's.
-pub writing_what_was_read : (t out back : List ℕ) (n : ℕ) → length t ≤ length back → (read_of t out).answer ≡ 0 ∷ n ∷ [] → write_of (take n (read_of t out).buffer) back ≡ delivery (Bytes (length t)) (put 0 (capital_text t) back)
+pub writing_what_was_read : (t out back : List ℕ) (n : ℕ) → length t ≤ length back → (read_of t out).answer ≡ 0 ∷ n ∷ [] → write_of (take n (read_of t out).buffer) back ≡ delivery (Ok (length t)) (put 0 (capital_text t) back)
 unfolding write_of
 writing_what_was_read t out back n room e =
     let w = read_bytes t out n e in
@@ -124,7 +124,7 @@ writing_what_was_read t out back n room e =
     ap (λ (x : List ℕ). write_of x back) p
     ∙ ap (λ (x : List ℕ). delivered (write_refusals (packed_of (events_of t))) x back) r
     ∙ delivers_output _ c back free (rw l room)
-    ∙ ap (λ (k : ℕ). delivery (Bytes k) (put 0 c back)) l
+    ∙ ap (λ (k : ℕ). delivery (Ok k) (put 0 c back)) l
 
 -- No other spelling is ever written: what the writer gives is its own capital spelling.
 pub written_in_capitals : (p out : List ℕ) (n : ℕ) → all_bytes p ≡ true → (write_of p out).answer ≡ 0 ∷ n ∷ [] → capital_text (take n (write_of p out).buffer) ≡ take n (write_of p out).buffer
@@ -134,11 +134,11 @@ written_in_capitals p out n y e =
     rw t (text_capital (unpacked p) (packs-proper p w.0 y))
 
 -- Any two outcomes that a promise of `measure`, of the reader or of the writer allows are equal.
-pub one_measure : (t : List ℕ) (r s : Done) → in_numbers r ≡ in_numbers (measure_of t) → in_numbers s ≡ in_numbers (measure_of t) → r ≡ s
+pub one_measure : (t : List ℕ) (r s : Result ℕ Refusal) → in_numbers r ≡ in_numbers (measure_of t) → in_numbers s ≡ in_numbers (measure_of t) → r ≡ s
 one_measure t r s a b = numbers_injective r s (a ∙ sym b)
 
-pub one_reading : (t out x y : List ℕ) (r s : Done) → delivery r x ≡ read_of t out → delivery s y ≡ read_of t out → (r ≡ s) × (x ≡ y)
+pub one_reading : (t out x y : List ℕ) (r s : Result ℕ Refusal) → delivery r x ≡ read_of t out → delivery s y ≡ read_of t out → (r ≡ s) × (x ≡ y)
 one_reading t out x y r s a b = delivery_injective r s x y (a ∙ sym b)
 
-pub one_writing : (p out x y : List ℕ) (r s : Done) → delivery r x ≡ write_of p out → delivery s y ≡ write_of p out → (r ≡ s) × (x ≡ y)
+pub one_writing : (p out x y : List ℕ) (r s : Result ℕ Refusal) → delivery r x ≡ write_of p out → delivery s y ≡ write_of p out → (r ≡ s) × (x ≡ y)
 one_writing p out x y r s a b = delivery_injective r s x y (a ∙ sym b)

@@ -1,8 +1,7 @@
 -- What the reader answers and leaves in the buffer. Document 01, "Job text" and "Refusal numbers". Assumes nothing.
-use Rattle.std.specs.Prelude.{Bool, not, List, [], ◌∷◌, ℕ, eqb, ltb, length}
+use Rattle.std.specs.Prelude.{Bool, not, List, [], ◌∷◌, ℕ, eqb, ltb, length, Result}
 use Rattle.refusal.specs.declared.Refusal.{Refusal}
 use Rattle.refusal.specs.declared.Refusal.TheVariants.{Text, Line}
-use Rattle.refusal.specs.declared.Done.{Done}
 use Rattle.refusal.specs.Order.{first_of}
 use Rattle.refusal.specs.Delivery.{Delivery, counted, delivered}
 use Rattle.text.specs.Text.{limit, first_bad, events_of}
@@ -16,7 +15,7 @@ text_refusals t =
     ∷ []
 
 -- 9 or 10, or how many packed bytes the text's events take
-unfoldable pub measure_of : List ℕ → Done
+unfoldable pub measure_of : List ℕ → Result ℕ Refusal
 measure_of t = counted (first_of (text_refusals t)) (length (packed_of (events_of t)))
 
 -- the reader: 9, 10, 11

@@ -11,7 +11,7 @@ ghost use Rattle.packed.specs.Packed.{pack_of, packed_of};
 ghost use Rattle.job.specs.Ways.{packed_size};
 ghost use Rattle.job.specs.Calls.{measure_of, read_of};
 
-use refusal::{Done, Refusal};
+use refusal::Refusal;
 use request::Setup;
 
 // How many bytes the event of a line of this length takes when packed.
@@ -26,7 +26,7 @@ fn packed_size(line: usize) -> usize
 }
 
 // The first malformed line, or how many bytes the text's events take when packed: one pass, a line a turn.
-fn scan(text: &[u8]) -> Done
+fn scan(text: &[u8]) -> Result<usize, Refusal>
     requires { length text.now ≤ limit }
     ensures { result ≡ measure_of text.now }
 {
@@ -36,22 +36,22 @@ fn scan(text: &[u8]) -> Done
     while at < text.len() {
         let line = line::line_length(&text[at..]);
         if line == 0 {
-            return Done::Refused(Refusal::Line(number));
+            return Err(Refusal::Line(number));
         }
         size += packed_size(line);
         number += 1;
         at += line;
     }
-    Done::Bytes(size)
+    Ok(size)
 }
 
 // How many bytes the text's events take when packed, or why the text is none.
 #[tactic(auto, using(crate::proofs::Measuring::measure_long))]
-pub fn measure(text: &[u8]) -> Done
+pub fn measure(text: &[u8]) -> Result<usize, Refusal>
     ensures { in_numbers result ≡ in_numbers (measure_of text.now) }
 {
     if text::LIMIT < text.len() {
-        return Done::Refused(Refusal::Text);
+        return Err(Refusal::Text);
     }
     scan(text)
 }
@@ -96,18 +96,13 @@ fn pack(text: &[u8], out: &mut [u8])
 }
 
 // Reads a text: its events go to the front of `out`, packed.
-pub fn read(text: &[u8], out: &mut [u8]) -> Done
+pub fn read(text: &[u8], out: &mut [u8]) -> Result<usize, Refusal>
     ensures { delivery result out.new ≡ read_of text.now out.old }
 {
-    let measured = measure(text);
-    match measured {
-        Done::Refused(why) => Done::Refused(why),
-        Done::Bytes(size) => {
-            if out.len() < size {
-                return Done::Refused(Refusal::Output);
-            }
-            pack(text, out);
-            Done::Bytes(size)
-        }
+    let size = measure(text)?;
+    if out.len() < size {
+        return Err(Refusal::Output);
     }
+    pack(text, out);
+    Ok(size)
 }

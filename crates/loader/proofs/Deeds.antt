@@ -3,8 +3,8 @@ use mathlib.Core.Path.{◌≡◌, refl}
 use mathlib.Core.List.{List}
 use Prim.Native.Nat.{ℕ}
 use lib.ListN.{drop}
+use Rattle.std.specs.Prelude.{Ok}
 use Rattle.board.specs.declared.Board.{Board}
-use Rattle.refusal.specs.declared.Admission.TheVariants.{Admitted}
 use Rattle.protection.specs.Protection.{read_protected}
 use Rattle.request.specs.Setup.{setup_of}
 use Rattle.device.specs.declared.Device.{Device}
@@ -49,6 +49,6 @@ module _ (board : Board) (d : Device) (q m b y : List ℕ) where
   request_does_its_action = decided_does (decide_of d (setup_of q) (command_of (drop 8 q)))
 
   -- and so does a step that no refusal stops
-  pub step_does_its_action : admitted_of board d event.Request q (sizes_of m b y) ≡ Admitted → (step_of board d event.Request q m b y).memory ≡ (performed_of board due b m).memory
+  pub step_does_its_action : admitted_of board d event.Request q (sizes_of m b y) ≡ Ok tt → (step_of board d event.Request q m b y).memory ≡ (performed_of board due b m).memory
   unfolding step_of
   step_does_its_action a = rw a request_does_its_action

@@ -3,6 +3,7 @@ use mathlib.Core.Path.{refl}
 use mathlib.Core.List.{List}
 use Prim.Native.Nat.{ℕ}
 use lib.ListN.{drop}
+use Rattle.std.specs.Prelude.{⊤, Result, Ok, Err}
 use Rattle.board.specs.declared.Board.{Board}
 use Rattle.board.specs.Sound.{Sound}
 use Rattle.protection.specs.Protection.{read_protected}
@@ -24,10 +25,9 @@ use Rattle.action.specs.Action.{status_action}
 use Rattle.perform.proofs.Sane.{performed_sane}
 use Rattle.loader.specs.declared.Event.{Event}
 use Rattle.loader.specs.declared.Event.TheVariants as event
-use Rattle.refusal.specs.declared.Admission.{Admission}
-use Rattle.refusal.specs.declared.Admission.TheVariants as admission
 use Rattle.loader.specs.Serve.{run_of, status_of, read_at, uploaded_of, acted_of, serve_of}
 use Rattle.loader.specs.Step.{sizes_of, admitted_of, steps, step_of}
+use Rattle.refusal.specs.declared.Refusal.{Refusal}
 
 module _ (board : Board) (d : Device) (m b y : List ℕ) (f : Form board d) where
   run_sane : Sane board (run_of board d b m).ran
@@ -64,7 +64,7 @@ pub step_form : (board : Board) → Sound board → (d : Device) (e : Event) (q 
 unfolding step_of
 step_form board sound d e q m b y f = go (admitted_of board d e q (sizes_of m b y)) e
   where
-    go : (a : Admission) (e : Event) → Form board (steps a e board d q m b y).device
-    go admission.Admitted event.Attach = started-form board sound
-    go admission.Admitted event.Request = serve_form board d m b y f q
-    go (admission.Refused r) e = f
+    go : (a : Result ⊤ Refusal) (e : Event) → Form board (steps a e board d q m b y).device
+    go (Ok _) event.Attach = started-form board sound
+    go (Ok _) event.Request = serve_form board d m b y f q
+    go (Err r) e = f

@@ -3,6 +3,7 @@ use mathlib.Core.Path.{◌≡◌, ◌∙◌, sym}
 use mathlib.Core.Bool.{true}
 use mathlib.Core.List.{List}
 use Prim.Native.Nat.{ℕ}
+use Rattle.std.specs.Prelude.{Ok, Err}
 use Rattle.board.specs.declared.Board.{Board}
 use Rattle.board.specs.Layout.{logger}
 use Rattle.board.specs.Sound.{Sound}
@@ -18,7 +19,6 @@ use Rattle.states.proofs.Form.{form_of, well_formed_lem}
 use Rattle.loader.specs.declared.Event.{Event}
 use Rattle.loader.specs.declared.Stepped.{Stepped}
 use Rattle.loader.specs.declared.Answer.TheVariants as answer
-use Rattle.refusal.specs.declared.Admission.TheVariants as admission
 use Rattle.loader.specs.Answer.{outcome, left}
 use Rattle.loader.specs.Step.{step_refusals, sizes_of, admitted_of, step_of}
 use Rattle.loader.proofs.Outcomes.{left_stepped, left-memory, left-block, left-reply}
@@ -37,24 +37,24 @@ one_outcome d e q m b y r₁ r₂ m₁ b₁ y₁ m₂ b₂ y₂ p₁ p₂ =
 
 module _ (board : Board) (d : Device) (e : Event) (q m b y : List ℕ) where
   -- a refusal leaves the device and every buffer as they were
-  pub refused_changes_nothing : (r : Refusal) → admitted_of board d e q (sizes_of m b y) ≡ admission.Refused r → step_of board d e q m b y ≡ outcome (answer.Refused r) d m b y
+  pub refused_changes_nothing : (r : Refusal) → admitted_of board d e q (sizes_of m b y) ≡ Err r → step_of board d e q m b y ≡ outcome (answer.Refused r) d m b y
   unfolding step_of
   refused_changes_nothing r a = rw a
 
   -- a refusal is the first row that applies
-  pub refused_first : (r : Refusal) → admitted_of board d e q (sizes_of m b y) ≡ admission.Refused r → First (step_refusals board d e q (sizes_of m b y)) r
+  pub refused_first : (r : Refusal) → admitted_of board d e q (sizes_of m b y) ≡ Err r → First (step_refusals board d e q (sizes_of m b y)) r
   unfolding admitted_of
-  refused_first r a = (first_exactly (step_refusals board d e q (sizes_of m b y)) (admission.Refused r)).0 a
+  refused_first r a = (first_exactly (step_refusals board d e q (sizes_of m b y)) (Err r)).0 a
 
   -- so none applies whose number comes before its own
-  pub refused_in_order : (r : Refusal) → admitted_of board d e q (sizes_of m b y) ≡ admission.Refused r → (k : ℕ) → before k (number_of r) ≡ true → Applies (step_refusals board d e q (sizes_of m b y)) k → ⊥
+  pub refused_in_order : (r : Refusal) → admitted_of board d e q (sizes_of m b y) ≡ Err r → (k : ℕ) → before k (number_of r) ≡ true → Applies (step_refusals board d e q (sizes_of m b y)) k → ⊥
   unfolding admitted_of
   refused_in_order r a = none_before (step_refusals board d e q (sizes_of m b y)) r (step_in_order board d e q (sizes_of m b y)) a
 
   -- where no refusal is given, no row applies
-  pub admitted_faultless : admitted_of board d e q (sizes_of m b y) ≡ admission.Admitted → NoneApply (step_refusals board d e q (sizes_of m b y))
+  pub admitted_faultless : admitted_of board d e q (sizes_of m b y) ≡ Ok tt → NoneApply (step_refusals board d e q (sizes_of m b y))
   unfolding admitted_of
-  admitted_faultless a = (first_exactly (step_refusals board d e q (sizes_of m b y)) admission.Admitted).0 a
+  admitted_faultless a = (first_exactly (step_refusals board d e q (sizes_of m b y)) (Ok tt)).0 a
 
   -- a well-formed state stays well formed, so that no run of events ends in refusal 4
   pub step_keeps_form : Sound board → well_formed board d ≡ true → well_formed board (step_of board d e q m b y).device ≡ true

@@ -1,11 +1,9 @@
 -- One event. Document 01, "Events" and the rows of "Refusal numbers" that name step. Assumes nothing.
-use Rattle.std.specs.Prelude.{Bool, false, not, List, [], ◌∷◌, ℕ, eqb, length}
+use Rattle.std.specs.Prelude.{Bool, false, not, List, [], ◌∷◌, ℕ, eqb, length, ⊤, Result, Ok, Err}
 use Rattle.board.specs.declared.Board.{Board}
 use Rattle.board.specs.Layout.{memory_bytes}
 use Rattle.refusal.specs.declared.Refusal.{Refusal}
 use Rattle.refusal.specs.declared.Refusal.TheVariants as refusal
-use Rattle.refusal.specs.declared.Admission.{Admission}
-use Rattle.refusal.specs.declared.Admission.TheVariants as admission
 use Rattle.refusal.specs.Order.{first_of}
 use Rattle.request.specs.Request.{transfer_bytes}
 use Rattle.request.specs.Setup.{fits_of}
@@ -35,7 +33,7 @@ step_refusals board d e q s =
     ∷ []
 
 -- the first of them
-unfoldable pub admitted_of : Board → Device → Event → List ℕ → Sizes → Admission
+unfoldable pub admitted_of : Board → Device → Event → List ℕ → Sizes → Result ⊤ Refusal
 admitted_of board d e q s = first_of (step_refusals board d e q s)
 
 -- "Attach .. its answer is Accepted and all buffers stay", or a request
@@ -44,9 +42,9 @@ happens event.Attach board d q m b y = outcome Accepted (started board) m b y
 happens event.Request board d q m b y = serve_of board d q m b y
 
 -- "A refusal leaves state and every buffer unchanged"
-abbrev pub steps : Admission → Event → Board → Device → List ℕ → List ℕ → List ℕ → List ℕ → Outcome
-steps admission.Admitted e board d q m b y = happens e board d q m b y
-steps (admission.Refused r) e board d q m b y = outcome (Refused r) d m b y
+abbrev pub steps : Result ⊤ Refusal → Event → Board → Device → List ℕ → List ℕ → List ℕ → List ℕ → Outcome
+steps (Ok _) e board d q m b y = happens e board d q m b y
+steps (Err r) e board d q m b y = outcome (Refused r) d m b y
 
 -- the lengths of the three buffers
 abbrev pub sizes_of : List ℕ → List ℕ → List ℕ → Sizes

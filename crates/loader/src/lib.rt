@@ -21,7 +21,7 @@ use command::Command;
 use decision::Decision;
 use device::{Device, Ran, Report};
 use mode::Mode;
-use refusal::{Admission, Refusal};
+use refusal::Refusal;
 use request::Setup;
 
 // What happens to the device: it is plugged in, or the host asks for something.
@@ -73,10 +73,9 @@ pub fn step(
         block: block.len(),
         reply: reply.len(),
     };
-    let admission = admit(board, device, event, request, sizes);
-    match admission {
-        Admission::Refused(refusal) => answered(device, Answer::Refused(refusal)),
-        Admission::Admitted => match event {
+    match admit(board, device, event, request, sizes) {
+        Err(refusal) => answered(device, Answer::Refused(refusal)),
+        Ok(()) => match event {
             Event::Attach => answered(device.attach(board), Answer::Accepted),
             Event::Request => serve(board, device, request, memory, block, reply),
         },
@@ -90,34 +89,40 @@ fn answered(device: Device, answer: Answer) -> Stepped
 }
 
 // The refusals of a step, in their order.
-fn admit(board: Board, device: Device, event: Event, request: &[u8], sizes: Sizes) -> Admission
+fn admit(
+    board: Board,
+    device: Device,
+    event: Event,
+    request: &[u8],
+    sizes: Sizes,
+) -> Result<(), Refusal>
     ensures { result ≡ admitted_of board device event request.now sizes }
 {
     if sizes.memory != board.memory_bytes() {
-        return Admission::Refused(Refusal::Memory);
+        return Err(Refusal::Memory);
     }
     if sizes.block != Setup::TRANSFER as usize {
-        return Admission::Refused(Refusal::Block);
+        return Err(Refusal::Block);
     }
     if sizes.reply != Setup::TRANSFER as usize {
-        return Admission::Refused(Refusal::Reply);
+        return Err(Refusal::Reply);
     }
     if !states::well_formed(device, board) {
-        return Admission::Refused(Refusal::State);
+        return Err(Refusal::State);
     }
     match event {
-        Event::Attach => Admission::Admitted,
+        Event::Attach => Ok(()),
         Event::Request => admit_request(request),
     }
 }
 
-fn admit_request(request: &[u8]) -> Admission
+fn admit_request(request: &[u8]) -> Result<(), Refusal>
     ensures { result ≡ first_of ((Refusal.Request, misfits Event.Request request.now) ∷ []) }
 {
-    if request::fits(request) {
-        return Admission::Admitted;
+    if !request::fits(request) {
+        return Err(Refusal::Request);
     }
-    Admission::Refused(Refusal::Request)
+    Ok(())
 }
 
 // A request, on a device and buffers that are in order.

@@ -1,7 +1,6 @@
 -- What the programs that play vectors make of numbers: no rule of the paper. Assumes nothing.
-use Rattle.std.specs.Prelude.{cond, List, ℕ, ◌+◌, ◌-◌, ◌*◌, eqb, get_or}
-use Rattle.refusal.specs.declared.Done.{Done}
-use Rattle.refusal.specs.declared.Done.TheVariants.{Bytes, Refused}
+use Rattle.std.specs.Prelude.{cond, List, ℕ, ◌+◌, ◌-◌, ◌*◌, eqb, get_or, Result, Ok, Err}
+use Rattle.refusal.specs.declared.Refusal.{Refusal}
 use Rattle.refusal.specs.Refusal.{number_of, line_named}
 use Rattle.numbers.specs.declared.Numbers.{Numbers}
 
@@ -18,6 +17,6 @@ abbrev pub lent_of : ℕ → ℕ → ℕ
 lent_of code right = cond (eqb code 0) right (cond (eqb code 1) (right - 1) (cond (eqb code 2) (right + 1) 0))
 
 -- an answer in numbers: the refusal and the line that it names, or 0, and the bytes put out
-abbrev pub told_of : Done → Numbers
-told_of (Bytes n) = record { number = 0; line = 0; count = n }
-told_of (Refused r) = record { number = number_of r; line = line_named r; count = 0 }
+abbrev pub told_of : Result ℕ Refusal → Numbers
+told_of (Ok n) = record { number = 0; line = 0; count = n }
+told_of (Err r) = record { number = number_of r; line = line_named r; count = 0 }

@@ -7,7 +7,7 @@
 ghost use Rattle.std.specs.Prelude.{◌≡◌, ◌+◌, ◌-◌, ◌*◌};
 ghost use Rattle.numbers.specs.Numbers.{pair_of, quad_of, lent_of, told_of};
 
-use refusal::Done;
+use refusal::Refusal;
 
 // What a call with an output answered, in numbers: the refusal and the line that it names, or 0, and the bytes put out.
 #[derive(Clone, Copy)]
@@ -44,16 +44,16 @@ pub fn lent(code: u8, right: u16) -> usize
 }
 
 // An answer in numbers.
-pub fn told(done: Done) -> Numbers
+pub fn told(done: Result<usize, Refusal>) -> Numbers
     ensures { result ≡ told_of done }
 {
     match done {
-        Done::Bytes(count) => Numbers {
+        Ok(count) => Numbers {
             number: 0,
             line: 0,
             count,
         },
-        Done::Refused(why) => Numbers {
+        Err(why) => Numbers {
             number: why.number() as usize,
             line: why.line(),
             count: 0,

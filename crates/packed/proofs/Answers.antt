@@ -5,12 +5,10 @@ use mathlib.Core.List.{List, [], ◌∷◌}
 use Prim.Native.Nat.{ℕ, ◌≤◌, ◌<◌}
 use native.Mathlib.Omega.{arith}
 use lib.ListN.{length}
+use Rattle.std.specs.Prelude.{Result, Ok, Err}
 use Rattle.laws.specs.Bytes.{put}
 use Rattle.refusal.specs.declared.Refusal.{Refusal}
 use Rattle.refusal.specs.declared.Refusal.TheVariants.{Text, Output}
-use Rattle.refusal.specs.declared.Admission.TheVariants as admission
-use Rattle.refusal.specs.declared.Done.{Done}
-use Rattle.refusal.specs.declared.Done.TheVariants.{Bytes, Refused}
 use Rattle.refusal.specs.Order.{first_of}
 use Rattle.refusal.specs.Delivery.{delivery}
 use Rattle.refusal.proofs.Delivery.{counted-bytes, counted_refused, delivers_refusal, delivers_eleven, delivers_bytes, delivered-bytes}
@@ -30,21 +28,21 @@ write_bytes p out n e =
     (w.0, w.1, d.1, d.2)
 
 -- the writer by what `spelled_size` answered
-module _ (p out : List ℕ) (r : Done) (is : r ≡ size_of p) where
-  pub write_refused : (why : Refusal) → r ≡ Refused why → delivery (Refused why) out ≡ write_of p out
+module _ (p out : List ℕ) (r : Result ℕ Refusal) (is : r ≡ size_of p) where
+  pub write_refused : (why : Refusal) → r ≡ Err why → delivery (Err why) out ≡ write_of p out
   unfolding size_of write_of
   write_refused why e = delivers_refusal (write_refusals p) _ out why (write_refusal p why (counted_refused _ _ why (sym is ∙ e)))
 
   -- an answer of n bytes is that of whole events
-  module _ (n : ℕ) (e : r ≡ Bytes n) where
-    sized : (first_of (packed_refusals p) ≡ admission.Admitted) × (n ≡ capped (length (text_of (unpacked p))))
+  module _ (n : ℕ) (e : r ≡ Ok n) where
+    sized : (first_of (packed_refusals p) ≡ Ok tt) × (n ≡ capped (length (text_of (unpacked p))))
     unfolding size_of
     sized = counted-bytes _ _ n (sym is ∙ e)
 
     pub sized_packs : packs p ≡ true
     sized_packs = packed_parts p sized.0
 
-    pub write_too_long : limit < n → delivery (Refused Text) out ≡ write_of p out
+    pub write_too_long : limit < n → delivery (Err Text) out ≡ write_of p out
     unfolding write_of
     write_too_long h = delivers_refusal (write_refusals p) _ out Text (write_long p sized.0 (capped_long (length (text_of (unpacked p))) n sized.1 h))
 
@@ -52,18 +50,18 @@ module _ (p out : List ℕ) (r : Done) (is : r ≡ size_of p) where
       size_is : n ≡ length (text_of (unpacked p))
       size_is = capped_is (length (text_of (unpacked p))) n sized.1 within
 
-      free : first_of (write_refusals p) ≡ admission.Admitted
+      free : first_of (write_refusals p) ≡ Ok tt
       free = write-within p sized.0 (let e = size_is in omega arith)
 
       pub sized_room : n ≤ length out → length (text_of (unpacked p)) ≤ length out
       sized_room h = let e = size_is in omega arith
 
-      pub write_short : length out < n → delivery (Refused Output) out ≡ write_of p out
+      pub write_short : length out < n → delivery (Err Output) out ≡ write_of p out
       unfolding write_of
       write_short h =
           let l : length out < length (text_of (unpacked p)) = let e = size_is in omega arith in
           delivers_eleven (write_refusals p) _ out free l
 
-      pub write_done : (y : List ℕ) → n ≤ length out → y ≡ put 0 (text_of (unpacked p)) out → delivery (Bytes n) y ≡ write_of p out
+      pub write_done : (y : List ℕ) → n ≤ length out → y ≡ put 0 (text_of (unpacked p)) out → delivery (Ok n) y ≡ write_of p out
       unfolding write_of
       write_done y h q = delivers_bytes (write_refusals p) _ out free n y size_is (sized_room h) q

@@ -8,11 +8,11 @@ use native.Mathlib.Nat.{add_assoc}
 use lib.ListN.{length, take, drop, length-append, length-drop, drop_of_length-le}
 use lib.Seq.{drop-drop, length-take-le, take_all, drop-length}
 use borrow.Author.Tests.{lt-ltb, le-ltb}
+use Rattle.std.specs.Prelude.{Ok, Err}
 use Rattle.laws.proofs.Bytes.{rest_is}
 use Rattle.laws.proofs.Split.{by_bool, by_lt}
 use Rattle.refusal.specs.declared.Refusal.TheVariants.{Request}
 use Rattle.request.proofs.Lengths.{fits_eight}
-use Rattle.refusal.specs.declared.Done.TheVariants.{Bytes, Refused}
 use Rattle.line.specs.Event.{Event, attach, request, fits, line_of}
 use Rattle.text.specs.Text.{limit, text_of}
 use Rattle.packed.specs.Packed.{pack_of, piece_size, first_piece, pieces_after, event_in, well_packed, all_packed, events_among, packs, unpacked}
@@ -152,15 +152,15 @@ module _ (p : List ℕ) (at piece : ℕ) (more : at < length p) (is : piece ≡ 
         ap (λ (n : ℕ). capped (n + r)) e ∙ capped-more (size + line_size piece) r ∙ ap capped (add_assoc size (line_size piece) r ∙ ap (λ (n : ℕ). size + n) (sym l)) ∙ s
 
 -- the end of the walk
-pub size_broken : (p : List ℕ) → packs p ≡ false → Refused Request ≡ size_of p
+pub size_broken : (p : List ℕ) → packs p ≡ false → Err Request ≡ size_of p
 unfolding size_of
 size_broken p h = rw (packed_broken p h)
 
-pub size_end : (p : List ℕ) (at size : ℕ) → length p ≤ at → size ≤ limit + 1 → packs (drop at p) ≡ packs p → capped (size + length (text_of (unpacked (drop at p)))) ≡ capped (length (text_of (unpacked p))) → Bytes size ≡ size_of p
+pub size_end : (p : List ℕ) (at size : ℕ) → length p ≤ at → size ≤ limit + 1 → packs (drop at p) ≡ packs p → capped (size + length (text_of (unpacked (drop at p)))) ≡ capped (length (text_of (unpacked p))) → Ok size ≡ size_of p
 unfolding size_of packs all_packed pieces_after unpacked events_among text_of
 size_end p at size h small b s =
     let d : drop at p ≡ [] = drop_of_length-le p h in
     let t : true ≡ all_packed (pieces_after 0 p) = rw d at b in
     let n : capped (size + 0) ≡ capped (length (text_of (events_among (pieces_after 0 p)))) = rw d at s in
     let z : size + 0 ≡ size = omega arith in
-    rw (packed_whole p (sym t)) (ap Bytes (sym (capped_once size small) ∙ ap capped (sym z) ∙ n))
+    rw (packed_whole p (sym t)) (ap Ok (sym (capped_once size small) ∙ ap capped (sym z) ∙ n))

@@ -1,6 +1,6 @@
 -- Lengths that the code goes by: no rule of the paper. Assumes nothing.
-use Rattle.std.specs.Prelude.{cond, List, ℕ, ◌+◌, ◌*◌, ltb, length}
-use Rattle.refusal.specs.declared.Done.{Done}
+use Rattle.std.specs.Prelude.{cond, List, ℕ, ◌+◌, ◌*◌, ltb, length, Result}
+use Rattle.refusal.specs.declared.Refusal.{Refusal}
 use Rattle.refusal.specs.Order.{first_of}
 use Rattle.refusal.specs.Delivery.{counted}
 use Rattle.text.specs.Text.{limit, text_of}
@@ -20,5 +20,5 @@ unfoldable pub capped : ℕ → ℕ
 capped n = cond (ltb limit n) (limit + 1) n
 
 -- 5, or how long the text of a packed list is, counted no further than one over the limit
-unfoldable pub size_of : List ℕ → Done
+unfoldable pub size_of : List ℕ → Result ℕ Refusal
 size_of p = counted (first_of (packed_refusals p)) (capped (length (text_of (unpacked p))))

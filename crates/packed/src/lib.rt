@@ -10,7 +10,7 @@ ghost use Rattle.packed.specs.Packed.{event_in, well_packed, packs, unpacked};
 ghost use Rattle.packed.specs.Ways.{piece_length, line_size, capped, size_of};
 ghost use Rattle.packed.specs.Calls.{write_of};
 
-use refusal::{Done, Refusal};
+use refusal::Refusal;
 use request::Setup;
 
 // The bytes of a packed request without data.
@@ -75,7 +75,7 @@ fn longer(size: usize, piece: usize) -> usize
 }
 
 // How long the text of a packed list is, or that it is no list of whole events.
-fn spelled_size(packed: &[u8]) -> Done
+fn spelled_size(packed: &[u8]) -> Result<usize, Refusal>
     ensures { result ≡ size_of packed.now }
 {
     let mut at = 0;
@@ -83,12 +83,12 @@ fn spelled_size(packed: &[u8]) -> Done
     while at < packed.len() {
         let piece = piece_length(&packed[at..]);
         if piece == 0 {
-            return Done::Refused(Refusal::Request);
+            return Err(Refusal::Request);
         }
         size = longer(size, piece);
         at += piece;
     }
-    Done::Bytes(size)
+    Ok(size)
 }
 
 // Writes the line of a packed event into `out` from place `at` on, and gives its length.
@@ -119,21 +119,16 @@ fn spell(packed: &[u8], out: &mut [u8])
 }
 
 // Writes a packed list's text to the front of `out`.
-pub fn write(packed: &[u8], out: &mut [u8]) -> Done
+pub fn write(packed: &[u8], out: &mut [u8]) -> Result<usize, Refusal>
     ensures { delivery result out.new ≡ write_of packed.now out.old }
 {
-    let sized = spelled_size(packed);
-    match sized {
-        Done::Refused(fault) => Done::Refused(fault),
-        Done::Bytes(size) => {
-            if text::LIMIT < size {
-                return Done::Refused(Refusal::Text);
-            }
-            if out.len() < size {
-                return Done::Refused(Refusal::Output);
-            }
-            spell(packed, out);
-            Done::Bytes(size)
-        }
+    let size = spelled_size(packed)?;
+    if text::LIMIT < size {
+        return Err(Refusal::Text);
     }
+    if out.len() < size {
+        return Err(Refusal::Output);
+    }
+    spell(packed, out);
+    Ok(size)
 }

@@ -8,16 +8,15 @@ use native.Mathlib.Nat.{add-zero, add-suc}
 use lib.Dec.{eqb}
 use lib.ListN.{length, take, get_or, take-append-drop}
 use borrow.Author.Tests.{eq-eqb, ne_eqb, lt-ltb, le-ltb}
+use Rattle.std.specs.Prelude.{Result, Ok, Err}
 use Rattle.laws.specs.Bytes.{put}
 use Rattle.laws.proofs.Bytes.{put-length}
 use Rattle.laws.proofs.Places.{put-before, put_in, put-after}
 use Rattle.laws.proofs.Split.{by_bool, by_eq, by_lt}
 use Rattle.bits.specs.Bits.{bit_at, any_from, some_set, within, Marked}
 use Rattle.bits.proofs.Bits.{some_set_by, within_in, within-before, within_behind, unmarked, marked_none}
+use Rattle.refusal.specs.declared.Refusal.{Refusal}
 use Rattle.refusal.specs.declared.Refusal.TheVariants.{Outside, Twice}
-use Rattle.refusal.specs.declared.Admission.TheVariants.{Admitted, Refused}
-use Rattle.refusal.specs.declared.Done.{Done}
-use Rattle.refusal.specs.declared.Done.TheVariants as done
 use Rattle.refusal.specs.Order.{first_of}
 use Rattle.refusal.proofs.First.{first-here, first_on, first-none}
 use Rattle.board.specs.declared.Board.{Board}
@@ -30,7 +29,7 @@ use Rattle.pieces.specs.Ways.{placing_of, marked_bytes, Placing, Holds, Places}
 
 -- what each test comes to
 module _ (board : Board) (a : ℕ) (xs : List ℕ) (ps : List Piece) where
-  pub none-laid : length xs ≡ 0 → (first_of (piece_refusals board a xs ps) ≡ Admitted) × (with_piece a xs ps ≡ ps)
+  pub none-laid : length xs ≡ 0 → (first_of (piece_refusals board a xs ps) ≡ Ok tt) × (with_piece a xs ps ≡ ps)
   unfolding any_from with_piece
   none-laid z =
       let e : (not (eqb (length xs) 0) && not (in_flash board a (length xs))) ≡ false = rw z in
@@ -38,16 +37,16 @@ module _ (board : Board) (a : ℕ) (xs : List ℕ) (ps : List Piece) where
       (first_on _ _ _ e ∙ first_on _ _ _ f ∙ first-none, rw z)
 
   module _ (some : length xs ≡ 0 → ⊥) where
-    pub outside : in_flash board a (length xs) ≡ false → first_of (piece_refusals board a xs ps) ≡ Refused Outside
+    pub outside : in_flash board a (length xs) ≡ false → first_of (piece_refusals board a xs ps) ≡ Err Outside
     outside o = first-here _ _ _ (rw (ne_eqb (length xs) 0 some, o))
 
     inside : in_flash board a (length xs) ≡ true → (not (eqb (length xs) 0) && not (in_flash board a (length xs))) ≡ false
     inside o = rw (ne_eqb (length xs) 0 some, o)
 
-    pub twice : in_flash board a (length xs) ≡ true → any_from (given ps) a (length xs) ≡ true → first_of (piece_refusals board a xs ps) ≡ Refused Twice
+    pub twice : in_flash board a (length xs) ≡ true → any_from (given ps) a (length xs) ≡ true → first_of (piece_refusals board a xs ps) ≡ Err Twice
     twice o t = first_on _ _ _ (inside o) ∙ first-here _ _ _ t
 
-    pub fresh : in_flash board a (length xs) ≡ true → any_from (given ps) a (length xs) ≡ false → first_of (piece_refusals board a xs ps) ≡ Admitted
+    pub fresh : in_flash board a (length xs) ≡ true → any_from (given ps) a (length xs) ≡ false → first_of (piece_refusals board a xs ps) ≡ Ok tt
     fresh o t = first_on _ _ _ (inside o) ∙ first_on _ _ _ t ∙ first-none
 
     pub with_piece_lem : with_piece a xs ps ≡ record { address = a; bytes = xs } ∷ ps
@@ -177,12 +176,12 @@ module _ (board : Board) (a : ℕ) (xs : List ℕ) (end : ℕ) (bits image : Lis
   unmarked_count : length xs ≡ 0 → marked_bytes board a xs ≡ 0
   unmarked_count z = by_bool (in_flash board a (length xs)) (λ o. rw o z) (λ o. rw o)
 
-  pub placing_nothing : length xs ≡ 0 → Placing board a xs end bits image bits image (done.Bytes end)
+  pub placing_nothing : length xs ≡ 0 → Placing board a xs end bits image bits image (Ok end)
   unfolding placing_of
   placing_nothing z = record { answer = rw (eq-eqb (length xs) 0 z); marks = marked_none _ _ bits (unmarked_count z); laid = put_nothing z }
 
   module _ (some : length xs ≡ 0 → ⊥) where
-    pub placing_outside : in_flash board a (length xs) ≡ false → Placing board a xs end bits image bits image (done.Refused Outside)
+    pub placing_outside : in_flash board a (length xs) ≡ false → Placing board a xs end bits image bits image (Err Outside)
     unfolding placing_of
     placing_outside o = record { answer = rw (ne_eqb (length xs) 0 some, o); marks = marked_none _ _ bits (rw o); laid = refl }
 
@@ -196,11 +195,11 @@ module _ (board : Board) (a : ℕ) (xs : List ℕ) (end : ℕ) (bits image : Lis
       seen : (b : Bool) → some_set from (to - from) bits ≡ b → some_set (a - flash_first board) (length xs) bits ≡ b
       seen b e = rw (count, is) at e
 
-      pub placing_twice : some_set from (to - from) bits ≡ true → Placing board a xs end bits image bits' image (done.Refused Twice)
+      pub placing_twice : some_set from (to - from) bits ≡ true → Placing board a xs end bits image bits' image (Err Twice)
       unfolding placing_of
       placing_twice t = record { answer = rw (ne_eqb (length xs) 0 some, o, seen true t); marks = marks-here; laid = refl }
 
-      pub placing_fresh : (image' : List ℕ) → some_set from (to - from) bits ≡ false → image' ≡ put from xs image → Placing board a xs end bits image bits' image' (done.Bytes (larger end to))
+      pub placing_fresh : (image' : List ℕ) → some_set from (to - from) bits ≡ false → image' ≡ put from xs image → Placing board a xs end bits image bits' image' (Ok (larger end to))
       unfolding placing_of
       placing_fresh image' f l =
           let e : to ≡ a - flash_first board + length xs = omega arith in
@@ -226,12 +225,12 @@ holds_still {board} {ps} {bits} {image} {end} h from xs bits' image' z m l =
     nowhere i = by_lt i from (within-before from 0 i) (λ b. let g : from + 0 ≤ i = omega arith in within_behind from 0 i g)
 
 -- what the code does is what a piece comes to, whatever pieces the bits and the image held
-pub placing_places : (board : Board) (a : ℕ) (xs : List ℕ) (end : ℕ) (bits image bits' image' : List ℕ) (r : Done) → Placing board a xs end bits image bits' image' r → Places board a xs end bits image bits' image' r
+pub placing_places : (board : Board) (a : ℕ) (xs : List ℕ) (end : ℕ) (bits image bits' image' : List ℕ) (r : Result ℕ Refusal) → Placing board a xs end bits image bits' image' r → Places board a xs end bits image bits' image' r
 unfolding placing_of
 placing_places board a xs end bits image bits' image' r p ps h =
     by_eq (length xs) 0
     (λ z.
-    let e : r ≡ done.Bytes end = p.answer ∙ rw (eq-eqb (length xs) 0 z) in
+    let e : r ≡ Ok end = p.answer ∙ rw (eq-eqb (length xs) 0 z) in
     let m : Marked (a - flash_first board) 0 bits bits' = rw (unmarked_count board a xs end bits image z) at p.marks in
     let l : image' ≡ put (a - flash_first board) xs image = rw e at p.laid in
     let q = none-laid board a xs ps z in
@@ -246,12 +245,12 @@ placing_places board a xs end bits image bits' image' r p ps h =
     let tells = bits_tell_given h a xs o from to refl refl in
     by_bool (some_set (a - flash_first board) (length xs) bits)
     (λ t.
-    let e : r ≡ done.Refused Twice = p.answer ∙ rw (ne_eqb (length xs) 0 some, o, t) in
+    let e : r ≡ Err Twice = p.answer ∙ rw (ne_eqb (length xs) 0 some, o, t) in
     rw e (twice board a xs ps some o (sym tells ∙ rw k t)))
     (λ f.
-    let e : r ≡ done.Bytes (larger end to) = p.answer ∙ rw (ne_eqb (length xs) 0 some, o, f) in
+    let e : r ≡ Ok (larger end to) = p.answer ∙ rw (ne_eqb (length xs) 0 some, o, f) in
     let l : image' ≡ put from xs image = rw e at p.laid in
     rw e (fresh board a xs ps some o (sym tells ∙ rw k f), rw (with_piece_lem board a xs ps some) (holds_with h a xs o from to refl refl some bits' image' m l))))
     (λ o.
-    let e : r ≡ done.Refused Outside = p.answer ∙ rw (ne_eqb (length xs) 0 some, o) in
+    let e : r ≡ Err Outside = p.answer ∙ rw (ne_eqb (length xs) 0 some, o) in
     rw e (outside board a xs ps some o)))

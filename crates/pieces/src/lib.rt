@@ -7,7 +7,7 @@ ghost use Rattle.pieces.specs.Image.{larger};
 ghost use Rattle.pieces.specs.Ways.{Placing};
 
 use board::Board;
-use refusal::{Done, Refusal};
+use refusal::Refusal;
 
 // The larger of two.
 fn larger(a: usize, b: usize) -> usize
@@ -24,21 +24,21 @@ pub fn place(
     end: usize,
     given: &mut [u8],
     image: &mut [u8],
-) -> Done
+) -> Result<usize, Refusal>
     requires { (flash_bytes board ≤ length given.old * 8) × (length image.old ≡ flash_bytes board) }
     ensures { Placing board address bytes.now end given.old image.old given.new image.new result }
 {
     if bytes.len() == 0 {
-        return Done::Bytes(end);
+        return Ok(end);
     }
     if !board.in_flash(address, bytes.len() as u64) {
-        return Done::Refused(Refusal::Outside);
+        return Err(Refusal::Outside);
     }
     let from = (address - board.flash_first() as u64) as usize;
     let to = from + bytes.len();
     if !bits::mark(given, from, to) {
-        return Done::Refused(Refusal::Twice);
+        return Err(Refusal::Twice);
     }
     buffer::put(image, from, bytes);
-    Done::Bytes(larger(end, to))
+    Ok(larger(end, to))
 }

@@ -4,7 +4,7 @@ use mathlib.Core.Bool.{true}
 use mathlib.Core.List.{List}
 use Prim.Native.Nat.{ℕ, ◌≤◌}
 use lib.ListN.{length}
-use Rattle.refusal.specs.declared.Admission.TheVariants.{Admitted}
+use Rattle.std.specs.Prelude.{Ok}
 use Rattle.laws.specs.Lists.{all_bytes}
 use Rattle.text.specs.Text.{limit, first_bad}
 use Rattle.text.proofs.EventText.{text-clean}
@@ -23,6 +23,6 @@ unfolding plan_of
 plan_clean board sound image y = text-clean (plan_events board image) (plan_proper board sound image y)
 
 -- with a work area of the right size
-pub plan_checkable : (board : Board) → Sound board → (image card w : List ℕ) → all_bytes image ≡ true → length (plan_of board image) ≤ limit → supplied board (length image) (length card) ≡ Admitted → length w ≡ work_bytes board → checkable board (plan_of board image) (length image) (length card) (length w) ≡ Admitted
+pub plan_checkable : (board : Board) → Sound board → (image card w : List ℕ) → all_bytes image ≡ true → length (plan_of board image) ≤ limit → supplied board (length image) (length card) ≡ Ok tt → length w ≡ work_bytes board → checkable board (plan_of board image) (length image) (length card) (length w) ≡ Ok tt
 plan_checkable board sound image card w y short s lw =
-    checkable_then board (plan_of board image) (length image) (length card) (length w) lw Admitted s ∙ text_good (plan_of board image) short (plan_clean board sound image y)
+    checkable_then board (plan_of board image) (length image) (length card) (length w) lw (Ok tt) s ∙ text_good (plan_of board image) short (plan_clean board sound image y)

@@ -5,12 +5,12 @@ use mathlib.Core.List.{List}
 use Prim.Native.Nat.{ℕ, ◌≤◌}
 use native.Mathlib.Omega.{arith}
 use lib.ListN.{length, replicate, length-replicate}
+use Rattle.std.specs.Prelude.{Result, Ok}
 use Rattle.board.specs.declared.Board.{Board}
 use Rattle.board.specs.Layout.{logger, flash_bytes, option_bytes}
 use Rattle.board.specs.Sound.{Sound}
 use Rattle.board.proofs.Logger.{logger-sound}
-use Rattle.refusal.specs.declared.Admission.TheVariants as admission
-use Rattle.refusal.specs.declared.Done.{Done}
+use Rattle.refusal.specs.declared.Refusal.{Refusal}
 use Rattle.refusal.specs.Delivery.{delivery}
 use Rattle.refusal.proofs.Delivery.{delivery_injective}
 use Rattle.laws.specs.Lists.{all_bytes}
@@ -35,7 +35,7 @@ use Rattle.plan.proofs.Length.{plan_length, bytes_most}
 use Rattle.plan.proofs.Logger.{logger_short}
 
 -- "any two outcomes allowed by a promise are equal"
-pub one_plan : (board : Board) (image card out x y : List ℕ) (r s : Done) → delivery r x ≡ planned board image card out → delivery s y ≡ planned board image card out → (r ≡ s) × (x ≡ y)
+pub one_plan : (board : Board) (image card out x y : List ℕ) (r s : Result ℕ Refusal) → delivery r x ≡ planned board image card out → delivery s y ≡ planned board image card out → (r ≡ s) × (x ≡ y)
 one_plan board image card out x y r s p q = delivery_injective r s x y (p ∙ sym q)
 
 -- The text of a plan gives its events back.
@@ -58,13 +58,13 @@ module _ (board : Board) (sound : Sound board) (image card : List ℕ) where
       rw (plan_verdict board sound image card blank_work blank_sized most lc free) at (judged board (plan_events board image) image card blank_work sound blank_sized lc bytes (plan_fits board sound image))
 
   -- So the text passes too: what the plan writer does not refuse, the checker passes.
-  pub planable_passes : all_bytes image ≡ true → all_bytes card ≡ true → planable board image card ≡ admission.Admitted → Judged board (events_of (plan_of board image)) image card verdict.Pass
+  pub planable_passes : all_bytes image ≡ true → all_bytes card ≡ true → planable board image card ≡ Ok tt → Judged board (events_of (plan_of board image)) image card verdict.Pass
   planable_passes y bytes e =
       let s = planable_lengths board image card e in
       rw (plan_spells board sound image y) (plan_passes s.most s.options bytes (planable_free board image card e))
 
 -- The logger's checker, given a text that its plan writer wrote and a work area of the right size, answers Pass: its promise allows nothing else.
-pub checker_passes : (image card w w' : List ℕ) (v : Verdict) → all_bytes image ≡ true → all_bytes card ≡ true → planable logger image card ≡ admission.Admitted → length w ≡ work_bytes logger → Checked logger (plan_of logger image) image card w (in_fields v) w' → v ≡ verdict.Pass
+pub checker_passes : (image card w w' : List ℕ) (v : Verdict) → all_bytes image ≡ true → all_bytes card ≡ true → planable logger image card ≡ Ok tt → length w ≡ work_bytes logger → Checked logger (plan_of logger image) image card w (in_fields v) w' → v ≡ verdict.Pass
 checker_passes image card w w' v y bytes e lw c =
     let short : length (plan_of logger image) ≤ limit = omega (arith, plan_length logger logger-sound image, bytes_most logger logger-sound (length image) (planable_lengths logger image card e).most, logger_short) in
     let admitted = plan_checkable logger logger-sound image card w y short (planable-supplied logger image card e) lw in

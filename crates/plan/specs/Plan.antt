@@ -1,12 +1,11 @@
 -- The plan of an image. Document 01, "The checker and the plan", last paragraph, and the rows of "Refusal numbers" that name the plan. Assumes nothing.
-use Rattle.std.specs.Prelude.{Bool, cond, ◌||◌, List, [], ◌∷◌, ◌++◌, ℕ, zero, suc, eqb, length, take, drop}
+use Rattle.std.specs.Prelude.{Bool, cond, ◌||◌, List, [], ◌∷◌, ◌++◌, ℕ, zero, suc, eqb, length, take, drop, ⊤, Result}
 use Rattle.board.specs.declared.Board.{Board}
 use Rattle.board.specs.Layout.{page_bytes, page_offset, page_address, flash_first, pages_of}
 use Rattle.protection.specs.Protection.{locked_from, word_from, any_protected}
 use Rattle.request.specs.Spelled.{four, downloading, getting_status}
 use Rattle.refusal.specs.declared.Refusal.{Refusal}
 use Rattle.refusal.specs.declared.Refusal.TheVariants.{Protected}
-use Rattle.refusal.specs.declared.Admission.{Admission}
 use Rattle.refusal.specs.Order.{first_of}
 use Rattle.refusal.specs.Delivery.{Delivery, delivered}
 use Rattle.board.specs.Supply.{supply_refusals}
@@ -71,7 +70,7 @@ abbrev pub plan_refusals : Board → List ℕ → List ℕ → List (Refusal × 
 plan_refusals board image card = supply_refusals board (length image) (length card) ++ ((Protected, barred board image card) ∷ [])
 
 -- the first of them, whatever buffer is lent
-unfoldable pub planable : Board → List ℕ → List ℕ → Admission
+unfoldable pub planable : Board → List ℕ → List ℕ → Result ⊤ Refusal
 planable board image card = first_of (plan_refusals board image card)
 
 -- the plan writer, for a board: these rows, then 11

@@ -14,7 +14,7 @@ ghost use Rattle.plan.specs.Plan.{download, get_status, padded, plan_of, barred,
 ghost use Rattle.plan.specs.Parts.{polled_text, page_text, leaving_text, Laid, status_line_bytes, sent_bytes, leaving_bytes, padded_length, page_lines};
 
 use board::Board;
-use refusal::{Admission, Done, Refusal};
+use refusal::Refusal;
 use request::Setup;
 
 // The command bytes of a DNLOAD with wValue 0: set pointer and erase page.
@@ -155,30 +155,24 @@ fn write(board: Board, image: &[u8], out: &mut [u8])
 }
 
 // Writes the plan of an image for a board with this card.
-fn plan_for(board: Board, image: &[u8], card: &[u8], out: &mut [u8]) -> Done
+fn plan_for(board: Board, image: &[u8], card: &[u8], out: &mut [u8]) -> Result<usize, Refusal>
     requires { Sound board }
     ensures { delivery result out.new ≡ planned board image.now card.now out.old }
 {
-    let supplied = board.supplied(image.len(), card.len());
-    match supplied {
-        Admission::Refused(why) => Done::Refused(why),
-        Admission::Admitted => {
-            let barred = barred(board, image, card);
-            let bytes = size(board, image);
-            if barred {
-                return Done::Refused(Refusal::Protected);
-            }
-            if out.len() < bytes {
-                return Done::Refused(Refusal::Output);
-            }
-            write(board, image, out);
-            Done::Bytes(bytes)
-        }
+    board.supplied(image.len(), card.len())?;
+    if barred(board, image, card) {
+        return Err(Refusal::Protected);
     }
+    let bytes = size(board, image);
+    if out.len() < bytes {
+        return Err(Refusal::Output);
+    }
+    write(board, image, out);
+    Ok(bytes)
 }
 
 // Writes the plan of an image to the front of `out`, for a board with this card.
-pub fn plan(image: &[u8], card: &[u8], out: &mut [u8]) -> Done
+pub fn plan(image: &[u8], card: &[u8], out: &mut [u8]) -> Result<usize, Refusal>
     ensures { delivery result out.new ≡ planned logger image.now card.now out.old }
 {
     plan_for(Board::LOGGER, image, card, out)

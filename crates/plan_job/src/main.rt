@@ -6,7 +6,6 @@ mod refuse;
 
 use board::Board;
 use files::{Stream, System};
-use refusal::Done;
 
 // One byte more than an image and a card may have, so that a longer file shows as such.
 const IMAGE_ROOM: usize = Board::LOGGER_FLASH + 1;
@@ -19,10 +18,9 @@ const NAMED: usize = 3;
 // Writes the job of an image for a card.
 fn perform(rt: &impl System, image: &[u8], card: &[u8]) {
     let mut job = [0u8; plan::LOGGER_JOB];
-    let done = plan::plan(image, card, &mut job);
-    match done {
-        Done::Bytes(size) => files::write(rt, Stream::Out, &job, size),
-        Done::Refused(why) => refuse::plan(rt, why, image, card),
+    match plan::plan(image, card, &mut job) {
+        Ok(size) => files::write(rt, Stream::Out, &job, size),
+        Err(why) => refuse::plan(rt, why, image, card),
     }
 }
 

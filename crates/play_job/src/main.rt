@@ -11,7 +11,7 @@ mod refuse;
 
 use board::Board;
 use files::{Stream, System};
-use refusal::{Done, Refusal};
+use refusal::Refusal;
 
 // One byte more than a job and a board may have, so that a longer file shows as such.
 const TEXT_ROOM: usize = text::LIMIT + 1;
@@ -27,12 +27,11 @@ const NAMED: usize = 3;
 // Plays the events of a text on a board.
 fn perform(rt: &impl System, text: &[u8], board: &[u8]) {
     let mut packed = [0u8; PACKED_ROOM];
-    let read = job::read(text, &mut packed);
-    match read {
-        Done::Bytes(size) => if size <= packed.len() {
+    match job::read(text, &mut packed) {
+        Ok(size) => if size <= packed.len() {
             play::play(rt, &packed[0..size], board);
         },
-        Done::Refused(why) => refuse::say(
+        Err(why) => refuse::say(
             rt,
             why,
             b"[The job has more than # bytes. Take out lines that it does not need.|Line # of the job is malformed. Correct it: a line is A, or Q, a tab, 16 digits, a tab and the data, with as many bytes as the setup asks for, in hexadecimal of either case, and ends with LF alone; A and Q are capitals.]\n",

@@ -8,10 +8,9 @@ use native.Mathlib.Nat.{le_refl}
 use lib.Dec.{eqb}
 use lib.ListN.{length, take, drop, get_or, drop_of_length-le}
 use lib.Seq.{drop-length}
+use Rattle.std.specs.Prelude.{⊤, Result, Ok, Err}
 use Rattle.laws.proofs.Bytes.{rest_is}
 use Rattle.laws.proofs.Split.{by_bool}
-use Rattle.refusal.specs.declared.Admission.{Admission}
-use Rattle.refusal.specs.declared.Admission.TheVariants.{Admitted, Refused}
 use Rattle.board.specs.declared.Board.{Board}
 use Rattle.board.specs.Layout.{logger}
 use Rattle.request.specs.declared.Setup.{Setup}
@@ -30,11 +29,12 @@ use Rattle.packed.specs.Packed.{event_in}
 use Rattle.loader.specs.World.{stepped_of}
 use Rattle.player.specs.Played.{played_of}
 use Rattle.player.specs.Asked.{asked_for, waits_of, asked_of}
+use Rattle.refusal.specs.declared.Refusal.{Refusal}
 
 -- an Attach does not look at the request
-steps_alone : (a : Admission) (board : Board) (d : Device) (q m b y : List ℕ) → steps a Attach board d q m b y ≡ steps a Attach board d [] m b y
-steps_alone Admitted board d q m b y = refl
-steps_alone (Refused r) board d q m b y = refl
+steps_alone : (a : Result ⊤ Refusal) (board : Board) (d : Device) (q m b y : List ℕ) → steps a Attach board d q m b y ≡ steps a Attach board d [] m b y
+steps_alone (Ok _) board d q m b y = refl
+steps_alone (Err r) board d q m b y = refl
 
 attach_alone : (board : Board) (d : Device) (q m b y : List ℕ) → step_of board d Attach q m b y ≡ step_of board d Attach [] m b y
 unfolding step_of admitted_of

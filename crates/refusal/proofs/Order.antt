@@ -6,9 +6,9 @@ use mathlib.Core.Logic.{◌⊎◌, ⊎_elim}
 use Prim.Native.Nat.{ℕ}
 use lib.Dec.{eqb}
 use borrow.Author.Tests.{ne_eqb}
+use Rattle.std.specs.Prelude.{Err}
 use Rattle.laws.proofs.Split.{by_bool, and_true, or_false}
 use Rattle.refusal.specs.declared.Refusal.{Refusal}
-use Rattle.refusal.specs.declared.Admission.TheVariants.{Refused}
 use Rattle.refusal.specs.Refusal.{number_of}
 use Rattle.refusal.specs.Order.{first_of, rows, met, before, before_all, in_order}
 
@@ -55,7 +55,7 @@ before-applies k ((r, true) ∷ xs) j e a =
     ⊎_elim (λ w. rw w p.0) (λ w. before-applies k xs j p.1 w) a
 
 -- Where the list is in order, no refusal applies whose number is before that of the answer.
-pub none_before : (xs : List (Refusal × Bool)) (r : Refusal) → in_order xs ≡ true → first_of xs ≡ Refused r → (j : ℕ) → before j (number_of r) ≡ true → Applies xs j → ⊥
+pub none_before : (xs : List (Refusal × Bool)) (r : Refusal) → in_order xs ≡ true → first_of xs ≡ Err r → (j : ℕ) → before j (number_of r) ≡ true → Applies xs j → ⊥
 unfolding first_of in_order
 none_before [] r o e j b a = a
 none_before ((s, false) ∷ xs) r o e j b a = none_before xs r (and_true (before_all (number_of s) xs) (in_order xs) o).1 e j b a

@@ -1,19 +1,15 @@
 -- What a call with an output answers, and what the lent buffer holds then. Document 01, "Refusal numbers". Assumes nothing.
-use Rattle.std.specs.Prelude.{Bool, List, [], ◌∷◌, ◌++◌, ℕ, ltb, length}
+use Rattle.std.specs.Prelude.{Bool, List, [], ◌∷◌, ◌++◌, ℕ, ltb, length, ⊤, Result, Ok, Err}
 use Rattle.laws.specs.Bytes.{put}
 use Rattle.refusal.specs.declared.Refusal.{Refusal}
 use Rattle.refusal.specs.declared.Refusal.TheVariants.{Output}
-use Rattle.refusal.specs.declared.Admission.{Admission}
-use Rattle.refusal.specs.declared.Admission.TheVariants as admission
-use Rattle.refusal.specs.declared.Done.{Done}
-use Rattle.refusal.specs.declared.Done.TheVariants.{Bytes, Refused}
 use Rattle.refusal.specs.Refusal.{number_of, line_named}
 use Rattle.refusal.specs.Order.{first_of}
 
 -- an answer in numbers: 0 and how many bytes; or the refusal's number and the line that it names
-abbrev pub in_numbers : Done → List ℕ
-in_numbers (Bytes n) = 0 ∷ n ∷ []
-in_numbers (Refused r) = number_of r ∷ line_named r ∷ []
+abbrev pub in_numbers : Result ℕ Refusal → List ℕ
+in_numbers (Ok n) = 0 ∷ n ∷ []
+in_numbers (Err r) = number_of r ∷ line_named r ∷ []
 
 -- an answer in numbers, and the lent buffer after the call
 pub record Delivery : Type 0 where
@@ -21,18 +17,18 @@ pub record Delivery : Type 0 where
   pub buffer : List ℕ
 
 -- what a function returned, and left in the buffer
-abbrev pub delivery : Done → List ℕ → Delivery
+abbrev pub delivery : Result ℕ Refusal → List ℕ → Delivery
 delivery r out = record { answer = in_numbers r; buffer = out }
 
 -- what a call answers that has n bytes to give
-abbrev pub counted : Admission → ℕ → Done
-counted admission.Admitted n = Bytes n
-counted (admission.Refused r) n = Refused r
+abbrev pub counted : Result ⊤ Refusal → ℕ → Result ℕ Refusal
+counted (Ok _) n = Ok n
+counted (Err r) n = Err r
 
 -- a call that has the bytes xs to give: "A refusal leaves state and every buffer unchanged. An output buffer keeps its bytes past the output"
-abbrev pub answered : Admission → List ℕ → List ℕ → Delivery
-answered admission.Admitted xs out = delivery (Bytes (length xs)) (put 0 xs out)
-answered (admission.Refused r) xs out = delivery (Refused r) out
+abbrev pub answered : Result ⊤ Refusal → List ℕ → List ℕ → Delivery
+answered (Ok _) xs out = delivery (Ok (length xs)) (put 0 xs out)
+answered (Err r) xs out = delivery (Err r) out
 
 -- a call's refusals and, behind them, row 11: "output buffer too short", "11 comes last"
 abbrev pub with_output : List (Refusal × Bool) → List ℕ → List ℕ → List (Refusal × Bool)

@@ -1,15 +1,13 @@
 -- The order of refusals, and the one that a call gives. Document 01, "Refusal numbers", the sentence over the table; document 02, CR 1. Assumes nothing.
-use Rattle.std.specs.Prelude.{Bool, true, false, cond, ◌&&◌, ◌||◌, List, [], ◌∷◌, ℕ, eqb}
+use Rattle.std.specs.Prelude.{Bool, true, false, cond, ◌&&◌, ◌||◌, List, [], ◌∷◌, ℕ, eqb, ⊤, Result, Ok, Err}
 use Rattle.refusal.specs.declared.Refusal.{Refusal}
-use Rattle.refusal.specs.declared.Admission.{Admission}
-use Rattle.refusal.specs.declared.Admission.TheVariants.{Admitted, Refused}
 use Rattle.refusal.specs.Refusal.{number_of}
 
 -- a call's refusals stand in one list, each with whether it applies: the first that does is given
-unfoldable pub first_of : List (Refusal × Bool) → Admission
-first_of [] = Admitted
+unfoldable pub first_of : List (Refusal × Bool) → Result ⊤ Refusal
+first_of [] = Ok tt
 first_of ((r, false) ∷ xs) = first_of xs
-first_of ((r, true) ∷ xs) = Refused r
+first_of ((r, true) ∷ xs) = Err r
 
 -- "this order": the table's, from top to bottom; CR 1: 20 to 24, each before the next
 abbrev pub rows : List ℕ

@@ -1,5 +1,5 @@
-// Every refusal of every call, in one enum, with its number and the line that it names; and the answers that a refusal
-// can be part of.
+// Every refusal of every call, in one enum, with its number and the line that it names. A call that can refuse answers
+// with a Result of it.
 #![tactic(auto)]
 
 ghost use Rattle.std.specs.Prelude.{◌≡◌};
@@ -25,20 +25,6 @@ pub enum Refusal {
     Twice,
     Unended,
     Empty,
-}
-
-// Whether a call is taken.
-#[derive(Clone, Copy)]
-pub enum Admission {
-    Admitted,
-    Refused(Refusal),
-}
-
-// What a call with an output answers: how many bytes, or why none.
-#[derive(Clone, Copy)]
-pub enum Done {
-    Bytes(usize),
-    Refused(Refusal),
 }
 
 impl Refusal {
@@ -73,24 +59,23 @@ impl Refusal {
         ensures { result ≡ line_named self }
     {
         match self {
-            Refusal::Memory => 0,
-            Refusal::Block => 0,
-            Refusal::Reply => 0,
-            Refusal::State => 0,
-            Refusal::Request => 0,
-            Refusal::Work => 0,
-            Refusal::Image => 0,
-            Refusal::Card => 0,
-            Refusal::Text => 0,
-            Refusal::Line(line) => line,
-            Refusal::Output => 0,
-            Refusal::Protected => 0,
-            Refusal::File => 0,
-            Refusal::Record(line) => line,
-            Refusal::Outside => 0,
-            Refusal::Twice => 0,
-            Refusal::Unended => 0,
-            Refusal::Empty => 0,
+            Refusal::Line(line) | Refusal::Record(line) => line,
+            Refusal::Memory
+            | Refusal::Block
+            | Refusal::Reply
+            | Refusal::State
+            | Refusal::Request
+            | Refusal::Work
+            | Refusal::Image
+            | Refusal::Card
+            | Refusal::Text
+            | Refusal::Output
+            | Refusal::Protected
+            | Refusal::File
+            | Refusal::Outside
+            | Refusal::Twice
+            | Refusal::Unended
+            | Refusal::Empty => 0,
         }
     }
 }

@@ -8,13 +8,13 @@ mod walk;
 
 use feed::Feed;
 use head::Vector;
-use refusal::Done;
+use refusal::Refusal;
 
 // Room for the longest text and the longest buffer of a vector.
 const ROOM: usize = 61000;
 
 // What a call answered, and what it left in its buffer; which call it was is picked by number.
-fn print(rt: &impl Print, call: usize, done: Done, out: &[u8]) {
+fn print(rt: &impl Print, call: usize, done: Result<usize, Refusal>, out: &[u8]) {
     let told = numbers::told(done);
     feed::print(
         rt,
@@ -30,7 +30,7 @@ fn print(rt: &impl Print, call: usize, done: Done, out: &[u8]) {
 }
 
 // The call that a vector is about.
-fn call(kind: u8, input: &[u8], out: &mut [u8]) -> Done {
+fn call(kind: u8, input: &[u8], out: &mut [u8]) -> Result<usize, Refusal> {
     if kind == head::WRITE {
         return packed::write(input, out);
     }

@@ -1,6 +1,5 @@
 -- What is gathered to explain a verdict: no rule of the paper. Assumes nothing.
-use Rattle.std.specs.Prelude.{Bool, true, false, cond, List, ℕ}
-use Rattle.refusal.specs.declared.Done.TheVariants.{Bytes}
+use Rattle.std.specs.Prelude.{Bool, true, false, cond, List, ℕ, Ok}
 use Rattle.refusal.specs.Delivery.{Delivery, delivery}
 use Rattle.job.specs.Calls.{read_of}
 use Rattle.verdict.specs.declared.Verdict.{Verdict}
@@ -16,4 +15,4 @@ told_at_once (Refused r) = true
 
 -- nothing, and the room as it was; or what the reader makes of the job
 unfoldable pub gathered_of : Verdict → List ℕ → List ℕ → Delivery
-gathered_of v job room = cond (told_at_once v) (delivery (Bytes 0) room) (read_of job room)
+gathered_of v job room = cond (told_at_once v) (delivery (Ok 0) room) (read_of job room)

@@ -8,7 +8,7 @@ ghost use Rattle.files.specs.Came.{Came};
 ghost use Rattle.telling.specs.Gathered.{told_at_once, gathered_of};
 
 use files::{Got, Stream, System};
-use refusal::{Done, Refusal};
+use refusal::Refusal;
 use verdict::Verdict;
 
 // How much is said of a file that cannot be read: nothing, the line that refuses, or that line and a sentence.
@@ -24,10 +24,8 @@ const LINE_ROOM: usize = 64;
 // Prints the verdict's line.
 pub fn line(rt: &impl System, to: Stream, verdict: Verdict) {
     let mut line = [0u8; LINE_ROOM];
-    let done = verdict::report(verdict, &mut line);
-    match done {
-        Done::Bytes(count) => files::write(rt, to, &line, count),
-        Done::Refused(_) => {}
+    if let Ok(count) = verdict::report(verdict, &mut line) {
+        files::write(rt, to, &line, count);
     }
 }
 
@@ -74,11 +72,11 @@ fn told_at_once(verdict: Verdict) -> bool
 
 // The job's events go to the front of `room`, packed, where they are needed. A packed job has half the bytes of its
 // text at most: the checker's work area, which nobody needs after the verdict, is room enough.
-pub fn gather(verdict: Verdict, job: &[u8], room: &mut [u8]) -> Done
+pub fn gather(verdict: Verdict, job: &[u8], room: &mut [u8]) -> Result<usize, Refusal>
     ensures { delivery result room.new ≡ gathered_of verdict job.now room.old }
 {
     if told_at_once(verdict) {
-        return Done::Bytes(0);
+        return Ok(0);
     }
     job::read(job, room)
 }

@@ -4,10 +4,10 @@ use mathlib.Core.List.{List, [], ◌++◌, append_assoc}
 use Prim.Native.Nat.{ℕ, ◌+◌, ◌≤◌, ◌<◌}
 use native.Mathlib.Omega.{arith}
 use lib.ListN.{length, length-append}
+use Rattle.std.specs.Prelude.{Ok, Err}
 use Rattle.laws.specs.Bytes.{put}
 use Rattle.laws.proofs.Append.{put_behind}
 use Rattle.refusal.specs.declared.Refusal.TheVariants.{Output}
-use Rattle.refusal.specs.declared.Done.TheVariants.{Bytes, Refused}
 use Rattle.refusal.specs.Delivery.{delivery, delivered}
 use Rattle.refusal.proofs.First.{first-none}
 use Rattle.refusal.proofs.Delivery.{delivers_eleven, delivers_bytes}
@@ -42,7 +42,7 @@ module _ (v : Verdict) (k n : ℕ) (ek : k ≡ (in_fields v).kind) (en : n ≡ (
       let f = ap length parts in
       omega arith
 
-  pub report_short : (out : List ℕ) → length out < 9 + length (decimal_of k) + length (decimal_of n) → delivery (Refused Output) out ≡ delivered [] (report_line v) out
+  pub report_short : (out : List ℕ) → length out < 9 + length (decimal_of k) + length (decimal_of n) → delivery (Err Output) out ≡ delivered [] (report_line v) out
   report_short out h = let e = line-length in delivers_eleven [] (report_line v) out first-none (omega arith)
 
   module _ (w out o₁ o₂ o₃ : List ℕ) (at : ℕ) (ew : w ≡ (in_fields v).word ++ tab) (room : length (report_line v) ≤ length out) (one : o₁ ≡ put 0 w out) (two : o₂ ≡ put 7 (decimal_of k ++ tab) o₁) (is : at ≡ 7 + length (decimal_of k) + 1) (three : o₃ ≡ put at (decimal_of n ++ line_feed) o₂) where
@@ -69,5 +69,5 @@ word_fits v w room ew h =
     let e = line-length v (in_fields v).kind (in_fields v).number refl refl in
     omega arith
 
-pub report-done : (xs out o₁ : List ℕ) (n : ℕ) → length xs ≤ length out → o₁ ≡ put 0 xs out → n ≡ length xs → delivery (Bytes n) o₁ ≡ delivered [] xs out
+pub report-done : (xs out o₁ : List ℕ) (n : ℕ) → length xs ≤ length out → o₁ ≡ put 0 xs out → n ≡ length xs → delivery (Ok n) o₁ ≡ delivered [] xs out
 report-done xs out o₁ n room is e = delivers_bytes [] xs out first-none n o₁ e room is

@@ -6,7 +6,7 @@ ghost use Rattle.laws.specs.Bytes.{put};
 ghost use Rattle.refusal.specs.Delivery.{delivery, delivered};
 ghost use Rattle.verdict.specs.Report.{in_fields, tab, report_line};
 
-use refusal::{Done, Refusal};
+use refusal::Refusal;
 
 #[derive(Clone, Copy)]
 pub enum Verdict {
@@ -73,11 +73,11 @@ fn write_line(verdict: Verdict, out: &mut [u8]) -> usize
 }
 
 // Writes the line that says the verdict to the front of `out`.
-pub fn report(verdict: Verdict, out: &mut [u8]) -> Done
+pub fn report(verdict: Verdict, out: &mut [u8]) -> Result<usize, Refusal>
     ensures { delivery result out.new ≡ delivered [] (report_line verdict) out.old }
 {
     if out.len() < PLAIN + decimal::digits(kind(verdict)) + decimal::digits(number(verdict)) {
-        return Done::Refused(Refusal::Output);
+        return Err(Refusal::Output);
     }
-    Done::Bytes(write_line(verdict, out))
+    Ok(write_line(verdict, out))
 }

@@ -48,8 +48,8 @@ slice_bounds-lay-end c =
     let q = line_read c.args.text.now l.at l.«record» _ _ c.read-line.ensures.0 c.read-line.ensures.1 room c.if-line-eq0.false in
     let b = q.0.bytes in let w = q.0.short in let k = q.0.kept in omega arith
 
-pub lay-done-requires : goal.lay-done-requires
-lay-done-requires c =
+pub lay-requires : goal.lay-requires
+lay-requires c =
     let l = c.loop-at in
     let room : 260 ≤ length l.«record» = let i = l.invariant.1 in let p = c.requires.0 in omega arith in
     let q = line_read c.args.text.now l.at l.«record» _ _ c.read-line.ensures.0 c.read-line.ensures.1 room c.if-line-eq0.false in
@@ -57,15 +57,15 @@ lay-done-requires c =
     let h = l.invariant.0.1.holds in
     (rw f q.0.whole, h.room, h.size)
 
-pub returns-in-Refused : goal.returns-in-Refused
-returns-in-Refused c =
+pub returns-in-Err : goal.returns-in-Err
+returns-in-Err c =
     let l = c.loop-at in
     let room : 260 ≤ length l.«record» = let i = l.invariant.1 in let p = c.requires.0 in omega arith in
     let q = line_read c.args.text.now l.at l.«record» _ _ c.read-line.ensures.0 c.read-line.ensures.1 room c.if-line-eq0.false in
     let f = q.0.front _ (ap (λ (n : ℕ). 5 + n) q.0.bytes) in
     let x = l.invariant.0.1 in
-    let p = walk_refused x c.loop-at-test.true q.0.formed _ (laid_refused _ _ _ _ _ _ _ _ _ f c.in-Refused.is (c.lay-done.ensures _ x.holds)) in
-    stops _ _ _ _ _ _ c.stopped-in-Refused.ensures p.0 p.1
+    let p = walk_refused x c.loop-at-test.true q.0.formed _ (laid_refused _ _ _ _ _ _ _ _ _ f c.in-Err.is (c.lay.ensures _ x.holds)) in
+    stops _ _ _ _ _ _ c.stopped-in-Err.ensures p.0 p.1
 
 pub slice_bounds-upper_after-end : goal.slice_bounds-upper_after-end
 slice_bounds-upper_after-end c =
@@ -106,7 +106,7 @@ loop-at-preserved c =
     let q = line_read c.args.text.now l.at l.«record» _ _ c.read-line.ensures.0 c.read-line.ensures.1 room c.if-line-eq0.false in
     let f = q.0.front _ (ap (λ (n : ℕ). 5 + n) q.0.bytes) in
     let x = l.invariant.0.1 in
-    let p = laid-bytes _ _ _ _ _ _ _ _ _ f c.in-Bytes.is (c.lay-done.ensures _ x.holds) in
+    let p = laid-bytes _ _ _ _ _ _ _ _ _ f c.in-Ok.is (c.lay.ensures _ x.holds) in
     ((_, walk_on x c.loop-at-test.true q.0.formed _ q.1 _ _ _ _ q.0.long (λ z. c.if-record-eq-END.false (q.0.type ∙ z)) p.0 p.1 (c.upper_after-upper.ensures ∙ ap (upper_after l.upper) f)), q.0.kept ∙ l.invariant.1, search rules, search rules)
 
 pub returns : goal.returns
