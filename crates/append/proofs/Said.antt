@@ -1,10 +1,10 @@
 -- Laws of `said_of`: what is left by the ways that `say` takes, by the words that are written over it, and by words behind words. Assumes nothing.
 use mathlib.Core.Path.{◌≡◌, refl, ap, ap₂, ◌∙◌, sym}
 use mathlib.Core.List.{List, [], ◌++◌, append-nil}
-use Prim.Native.Nat.{ℕ, ◌+◌, ◌-◌, ◌≤◌, ◌<◌}
-use native.Mathlib.Nat.{add-zero, sub-zero}
+use Prim.Native.Nat.{ℕ, ◌+◌, ◌-◌, ◌≤◌, ◌<◌, min}
+use native.Mathlib.Nat.{add-zero, le_refl}
 use native.Mathlib.Omega.{arith}
-use lib.ListN.{length, take, take-append-drop, length-append}
+use lib.ListN.{length, take, take-append-drop, length-append, length-take}
 use lib.Seq.{take_all, length-take-le, take-append-le, take-append-add}
 use Rattle.laws.specs.Bytes.{put}
 use Rattle.laws.proofs.Bytes.{put-length, take_at_most}
@@ -36,18 +36,15 @@ said_none xs out at h =
     let e : length out - at ≡ 0 = omega arith in
     said_as xs [] out out at at (take_none (length out - at) xs e) (sym (add-zero at)) (put_nothing out at)
 
-pub said_part : (xs out o : List ℕ) (at : ℕ) → at < length out → length out - at < length xs → o ≡ put at (take (length out - at - 0) xs) out → left (length o) o ≡ said_of xs out at
-said_part xs out o at h s e =
-    let g : length out - at ≤ length xs = omega arith in
-    let k : length (take (length out - at) xs) ≡ length out - at = length-take-le (length out - at) xs g in
-    let r : at + length (take (length out - at) xs) ≤ length out = omega arith in
-    let is : o ≡ put at (take (length out - at) xs) out = e ∙ ap (λ (n : ℕ). put at (take n xs) out) (sub-zero (length out - at)) in
-    let l : length o ≡ length out = ap length is ∙ put-length at (take (length out - at) xs) out r in
-    let n : length o ≡ at + length (take (length out - at) xs) = omega arith in
-    said_as xs (take (length out - at) xs) out o at (length o) refl n is
-
-pub said_all : (xs out o : List ℕ) (at : ℕ) → length xs ≤ length out - at → o ≡ put at xs out → left (at + length xs) o ≡ said_of xs out at
+said_all : (xs out o : List ℕ) (at : ℕ) → length xs ≤ length out - at → o ≡ put at xs out → left (at + length xs) o ≡ said_of xs out at
 said_all xs out o at h e = said_as xs xs out o at (at + length xs) (take_all (length out - at) xs h) refl e
+
+-- n of the words are written, as many as there is room for
+pub said_fit : (xs out o : List ℕ) (at n : ℕ) → n ≡ min (length xs) (length out - at) → o ≡ put at (take n xs) out → left (at + n) o ≡ said_of xs out at
+said_fit xs out o at n e p =
+    let t : take (length out - at) xs ≡ take n xs = by_lt (length out - at) (length xs) (λ h. let k : length out - at ≡ n = omega arith in rw k) (λ h. let k : n ≡ length xs = omega arith in rw (k, take_all (length out - at) xs h, take_all (length xs) xs (le_refl (length xs)))) in
+    let l : n ≡ length (take n xs) = rw length-take (omega arith) in
+    said_as xs (take n xs) out o at (at + n) t (ap (λ (k : ℕ). at + k) l) p
 
 -- what says some words says words that are the same
 pub same_said : {s : Said} (xs ys out : List ℕ) (at : ℕ) → xs ≡ ys → s ≡ said_of xs out at → s ≡ said_of ys out at

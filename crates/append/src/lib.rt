@@ -6,17 +6,14 @@ ghost use Rattle.std.specs.Prelude.{◌≡◌};
 ghost use Rattle.append.specs.Said.{left, said_of};
 
 // The bytes of `text` go over those of `out` from place `at` on, as many as there is room for.
+#[tactic(auto, using(crate::proofs::Said::said_none, crate::proofs::Said::said_fit))]
 pub fn say(text: &[u8], out: &mut [u8], at: usize) -> usize
     ensures { left result out.new ≡ said_of text.now out.old at }
 {
     if out.len() <= at {
         return at;
     }
-    let room = out.len() - at;
-    if room < text.len() {
-        buffer::put(out, at, &text[0..room]);
-        return out.len();
-    }
-    buffer::put(out, at, text);
-    at + text.len()
+    let count = text.len().min(out.len() - at);
+    buffer::put(out, at, &text[..count]);
+    at + count
 }

@@ -1,48 +1,44 @@
--- How a name ends, compared byte by byte: a turn of the loop, and its end. Assumes nothing.
-use mathlib.Core.Path.{◌≡◌, refl}
-use mathlib.Core.Bool.{Bool, true, false, ◌&&◌}
-use mathlib.Core.List.{List}
-use Prim.Native.Nat.{ℕ, suc, ◌+◌, ◌-◌, ◌≤◌, ◌<◌}
-use native.Mathlib.Omega.{arith}
-use native.Mathlib.Numerals.{add-one}
-use lib.Dec.{eqb}
-use lib.ListN.{length, drop, get_or, drop_of_length-le}
-use lib.Seq.{drop-cons}
+-- How a name ends, in letters of either case. Assumes nothing.
+use mathlib.Core.Path.{◌≡◌, refl, ap, ◌∙◌, sym}
+use mathlib.Core.Bool.{true, false}
+use mathlib.Core.List.{List, [], ◌∷◌, map}
+use Prim.Native.Nat.{ℕ, ◌-◌, ◌≤◌, ◌<◌}
+use lib.ListN.{length, take, drop}
 use borrow.Author.Tests.{lt-ltb, le-ltb}
-use Rattle.laws.proofs.Split.{and_right_true}
+use Rattle.std.specs.Char.{to_ascii_lowercase}
 use Rattle.laws.specs.Lists.{same}
-use Rattle.hexname.specs.Name.{small_of, smalls, ends_in}
-
-and_assoc : (a b c : Bool) → (a && b) && c ≡ a && (b && c)
-and_assoc true b c = refl
-and_assoc false b c = refl
+use Rattle.laws.proofs.Split.{by_bool}
+use Rattle.laws.proofs.Bytes.{rest_is}
+use Rattle.laws.proofs.Lists.{same_eq, same_refl}
+use Rattle.hexname.specs.Name.{smalls, ends_in}
 
 -- a name that is shorter than the ending does not end so
-pub too_short : (e n : List ℕ) → length n < length e → false ≡ ends_in e n
+pub too_short : (e n : List ℕ) → length n < length e → ends_in e n ≡ false
 unfolding ends_in
 too_short e n h = rw (lt-ltb (length n) (length e) h)
 
--- the place where the ending can begin
-pub fits : (m k : ℕ) → k ≤ m → (m - k) + k ≡ m
-fits m k h = omega arith
+-- the library's small letters are ours
+smalls_are : (xs : List ℕ) → smalls xs ≡ map to_ascii_lowercase xs
+unfolding smalls
+smalls_are [] = refl
+smalls_are (x ∷ xs) = rw (smalls_are xs)
 
--- `alike` says whether the bytes of the ending before place i are there, from place `from` of the name on
-module _ (n e : List ℕ) (from i : ℕ) (alike : Bool) (fits : from + length e ≡ length n) where
-  pub ending_turn : (s : ℕ) → s ≡ small_of (get_or n (from + i) 0) → i < length e → (alike && eqb s (get_or e i 0)) && same (smalls (drop (from + (i + 1)) n)) (drop (i + 1) e) ≡ alike && same (smalls (drop (from + i) n)) (drop i e)
-  unfolding same smalls
-  ending_turn s is h =
-      let inside : from + i < length n = omega arith in
-      let next : from + (i + 1) ≡ suc (from + i) = omega arith in
-      rw (is, next, drop-cons n (from + i) 0 inside, drop-cons e i 0 h, add-one i)
-      (and_assoc alike (eqb (small_of (get_or n (from + i) 0)) (get_or e i 0)) (same (smalls (drop (suc (from + i)) n)) (drop (suc i) e)))
+-- the end of a name that is long enough, as the library compares it with an ending in small letters
+module _ (e n : List ℕ) (small : smalls e ≡ e) (h : length e ≤ length n) where
+  end : List ℕ
+  end = take (length n - (length n - length e)) (drop (length n - length e) n)
 
-  pub ending_end : length e ≤ i → alike && same (smalls (drop (from + i) n)) (drop i e) ≡ alike
-  unfolding same smalls
-  ending_end h =
-      let past : length n ≤ from + i = omega arith in
-      rw (drop_of_length-le n past, drop_of_length-le e h) (and_right_true alike)
+  ends_same : ends_in e n ≡ same (smalls end) e
+  unfolding ends_in end
+  ends_same = rw (le-ltb (length n) (length e) h, rest_is (length n - length e) n)
 
--- what is found from the only place where the ending can begin
-pub ends_there : (n e : List ℕ) (from : ℕ) → length e ≤ length n → from ≡ length n - length e → same (smalls (drop from n)) e ≡ ends_in e n
-unfolding ends_in
-ends_there n e from h is = rw (le-ltb (length n) (length e) h, is)
+  pub ends_so : map to_ascii_lowercase (take (length n - (length n - length e)) (drop (length n - length e) n)) ≡ map to_ascii_lowercase e → ends_in e n ≡ true
+  unfolding end
+  ends_so d = ends_same ∙ ap (λ (l : List ℕ). same l e) (smalls_are end ∙ d ∙ sym (smalls_are e) ∙ small) ∙ same_refl e
+
+  pub ends_not : (map to_ascii_lowercase (take (length n - (length n - length e)) (drop (length n - length e) n)) ≡ map to_ascii_lowercase e → ⊥) → ends_in e n ≡ false
+  unfolding end
+  ends_not d =
+      by_bool (ends_in e n)
+      (λ t. absurd (d (sym (smalls_are end) ∙ same_eq (smalls end) e (sym ends_same ∙ t) ∙ sym small ∙ smalls_are e)))
+      (λ t. t)
