@@ -68,6 +68,7 @@ fn eight(field: &[u8; 16]) -> [u8; 8]
 }
 
 // Eight bytes go over those of `out` from place `at` on.
+#[tactic(auto, unfolding(laws::specs::Bytes::put))]
 fn lay(bytes: [u8; 8], out: &mut [u8], at: usize)
     requires { at + 8 ≤ length out.old }
     ensures { out.new ≡ put at bytes out.old }
