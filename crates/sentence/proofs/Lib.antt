@@ -1,5 +1,4 @@
 pub mod Numbers
 pub mod Texts
 pub mod Parts
-pub mod Spelled
 pub mod Turns

@@ -1,67 +1,41 @@
--- Laws of `first_text` and `other_texts`: a turn of the loop that looks for a text's end, its ends, and what lies behind. Assumes nothing.
-use mathlib.Core.Path.{◌≡◌, refl, ap, ◌∙◌, sym}
-use mathlib.Core.List.{List, [], ◌∷◌}
-use Prim.Native.Nat.{ℕ, suc, ◌+◌, ◌-◌, ◌≤◌, ◌<◌}
-use native.Mathlib.Nat.{add-zero}
-use native.Mathlib.Numerals.{add-one}
-use native.Mathlib.Omega.{arith}
-use borrow.Author.Tests.{ne_eqb}
-use lib.Dec.{eqb}
-use lib.ListN.{length, take, drop, get_or, drop_of_length-le}
-use lib.Seq.{drop-cons, drop-drop}
+-- Laws of the first of some texts and of the others. Assumes nothing.
+use Rattle.std.proofs.Common.{◌≡◌, ℕ, ◌+◌, ◌≤◌, Bor, Option, Some, None, unwrap_or, cond, ltb, sym, List, [], ◌∷◌, length, take, drop, eqb, refl, ap, ◌∙◌, suc, add-one, arith}
+use borrow.Author.Tests.{ltb-false}
+use lib.Seq.{take_all}
+use lib.ListN.{drop_of_length-le}
+use Rattle.std.specs.Slice.{IsGetRangeResult}
+use Rattle.laws.proofs.Bytes.{rest_is}
+use Rattle.std.specs.List.{position_or_len}
 use Rattle.laws.proofs.Split.{by_bool}
-use Rattle.sentence.specs.Sentence.{bar, text, first_text, other_texts, left_texts}
+use Rattle.sentence.specs.Sentence.{bar, first_text, other_texts}
 
-first_at : (ts : List ℕ) (i : ℕ) → i < length ts → first_text (drop i ts) ≡ first_text (get_or ts i 0 ∷ drop (i + 1) ts)
-first_at ts i h = rw (drop-cons ts i 0 h, add-one i)
-
--- at a bar, before any other byte, and past the end
-pub first_stop : (ts : List ℕ) (i : ℕ) → i < length ts → get_or ts i 0 ≡ bar → i ≡ i + length (first_text (drop i ts))
+-- the first ends before the first bar
+pub first_is : (l : List ℕ) → take (position_or_len (λ x. eqb x bar) l) l ≡ first_text l
 unfolding first_text
-first_stop ts i h e =
-    let none : first_text (drop i ts) ≡ [] = first_at ts i h ∙ rw e in
-    sym (ap (λ (l : List ℕ). i + length l) none ∙ add-zero i)
+first_is [] = refl
+first_is (x ∷ l) =
+    let n = position_or_len (λ y. eqb y bar) l in
+    let e : 1 + n ≡ suc n = omega arith in
+    by_bool (eqb x bar) (λ t. rw t) (λ f. rw (f, e) (ap (λ r. x ∷ r) (first_is l)))
 
-pub first_turn : (ts : List ℕ) (i : ℕ) → i < length ts → (get_or ts i 0 ≡ bar → ⊥) → i + length (first_text (drop i ts)) ≡ i + 1 + length (first_text (drop (i + 1) ts))
-unfolding first_text
-first_turn ts i h n =
-    let e : length (first_text (drop i ts)) ≡ suc (length (first_text (drop (i + 1) ts))) = ap length (first_at ts i h) ∙ rw (ne_eqb (get_or ts i 0) bar n) in
-    omega arith
+-- so it does where the place of the first bar is looked for, and all are one text where none is found
+pub first_found : (l : List ℕ) (end : ℕ) (o : Option ℕ) → o ≡ cond (ltb (position_or_len (λ x. eqb x bar) l) (length l)) (Some (position_or_len (λ x. eqb x bar) l)) None → end ≡ unwrap_or o (length l) → take end l ≡ first_text l
+first_found l end o w e =
+    let k = position_or_len (λ x. eqb x bar) l in
+    by_bool (ltb k (length l)) (λ t. rw (e, w, t) (first_is l))
+    (λ f.
+    let h : length l ≤ k = omega (arith, ltb-false k (length l) f) in
+    rw (e, w, f) (take_all (length l) l (omega arith) ∙ sym (take_all k l h) ∙ first_is l))
 
-pub first_end : (ts : List ℕ) (i : ℕ) → length ts ≤ i → i ≡ i + length (first_text (drop i ts))
-unfolding first_text
-first_end ts i h = sym (ap (λ (l : List ℕ). i + length (first_text l)) (drop_of_length-le ts h) ∙ add-zero i)
-
--- the first text is in front, and a byte behind it the others begin
-take-first : (l : List ℕ) → take (length (first_text l)) l ≡ first_text l
-unfolding first_text
-take-first [] = refl
-take-first (x ∷ xs) = by_bool (eqb x bar) (λ e. rw e) (λ e. rw e (ap (λ (l : List ℕ). x ∷ l) (take-first xs)))
-
-drop-first : (l : List ℕ) → drop (suc (length (first_text l))) l ≡ other_texts l
+-- a byte behind it the others begin
+pub behind_first : (l : List ℕ) → drop (length (first_text l) + 1) l ≡ other_texts l
 unfolding first_text other_texts
-drop-first [] = refl
-drop-first (x ∷ xs) = by_bool (eqb x bar) (λ e. rw e) (λ e. rw e (drop-first xs))
+behind_first [] = refl
+behind_first (x ∷ l) = by_bool (eqb x bar) (λ t. rw t) (λ f. rw (f, add-one) (rw add-one at (behind_first l)))
 
-module _ (ts : List ℕ) (from end : ℕ) (is : end ≡ from + length (first_text (drop from ts))) where
-  pub text_part : take (end - from) (drop from ts) ≡ first_text (drop from ts)
-  text_part =
-      let e : end - from ≡ length (first_text (drop from ts)) = omega arith in
-      ap (λ (k : ℕ). take k (drop from ts)) e ∙ take-first (drop from ts)
-
-  behind : drop (end + 1) ts ≡ other_texts (drop from ts)
-  behind =
-      let e : end + 1 ≡ from + suc (length (first_text (drop from ts))) = omega arith in
-      ap (λ (k : ℕ). drop k ts) e ∙ sym (drop-drop (suc (length (first_text (drop from ts)))) from ts) ∙ drop-first (drop from ts)
-
-  -- the next text behind a byte that takes one, with a bar behind the text that it takes and with none, and behind any other
-  pub text_behind : (b : ℕ) → b ≡ text → drop (end + 1) ts ≡ left_texts b (drop from ts)
-  text_behind b e = behind ∙ rw e
-
-  pub text-none : (b : ℕ) → b ≡ text → length ts ≤ end → drop end ts ≡ left_texts b (drop from ts)
-  text-none b e h =
-      let k : length ts ≤ end + 1 = omega arith in
-      drop_of_length-le ts h ∙ sym (drop_of_length-le ts k) ∙ text_behind b e
-
-pub text_same : (ts : List ℕ) (b : ℕ) → (b ≡ text → ⊥) → ts ≡ left_texts b ts
-text_same ts b n = rw (ne_eqb b text n)
+-- what the library's `get` gives of a list from a place on, and nothing past the end
+pub rest_got : (xs : List ℕ) (k : ℕ) (o : Option (Bor (List ℕ))) (d x : Bor (List ℕ)) → IsGetRangeResult xs k (length xs) o → x ≡ unwrap_or o d → d.now ≡ [] → x.now ≡ drop k xs
+rest_got xs k None d x h e n =
+    let past : length xs ≤ k = omega (arith, h.0) in
+    ap (λ b. b.now) e ∙ n ∙ sym (drop_of_length-le xs past)
+rest_got xs k (Some y) d x h e n = ap (λ b. b.now) e ∙ h.0.2 ∙ rest_is k xs

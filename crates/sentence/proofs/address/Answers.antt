@@ -1,6 +1,7 @@
 -- `sentence::address` meets its contract. Assumes nothing.
-use Rattle.sentence.proofs.Numbers.{address_said}
+use Rattle.std.proofs.Common.{◌∙◌, arith}
+use Rattle.sentence.proofs.Numbers.{be_bytes, address_said}
 use Rattle.sentence.proofs.address.Goals as goal
 
 pub returns : goal.returns
-returns c = address_said _ _ _ _ _ _ c.high_first.ensures c.encode.ensures c.say.ensures
+returns c = address_said _ _ _ _ _ _ (c.to_be_bytes.ensures ∙ be_bytes c.args.address (omega arith)) c.encode.ensures c.say.ensures

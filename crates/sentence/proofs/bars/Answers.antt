@@ -1,20 +1,18 @@
 -- `sentence::bars` meets its contract. Assumes nothing.
-use mathlib.Core.Path.{◌∙◌}
-use native.Mathlib.Nat.{zero-add}
-use native.Mathlib.Omega.{arith}
-use Rattle.sentence.proofs.Parts.{bars_turn, bars_stop, bars_end}
+use Rattle.std.proofs.Common.{rules, tests, eqb, not, take, ◌∙◌}
+use Rattle.std.specs.List.{prefix_len}
+use Rattle.std.proofs.lemmas.Iterator.{YieldsList-from_slice}
+use Rattle.std.proofs.lemmas.Iterator.Search.{YieldsList-from_take_while}
+use Rattle.std.proofs.lemmas.Iterator.Consumers.{YieldsList-at, YieldsList-from_filter, count_from_yields_List}
+use Rattle.std.proofs.lemmas.List.Sums.{length-filter}
+use Rattle.sentence.specs.Sentence.{bar, closes}
+use Rattle.sentence.proofs.Parts.{bars_counted}
 use Rattle.sentence.proofs.bars.Goals as goal
 
-pub loop-i-init : goal.loop-i-init
-loop-i-init c = (zero-add _, omega arith)
-
-pub returns-then-byte-eq93 : goal.returns-then-byte-eq93
-returns-then-byte-eq93 c = bars_stop _ _ _ c.loop-i-test.true c.if-byte-eq93.true ∙ c.loop-i.invariant.0
-
-pub loop-i-preserved : goal.loop-i-preserved
-loop-i-preserved c =
-    let l = c.loop-i in
-    (bars_turn _ _ _ _ c.loop-i-test.true c.if-byte-eq93.false c.bar-count.ensures.0 ∙ l.invariant.0, omega arith)
-
 pub returns : goal.returns
-returns c = bars_end _ _ _ c.loop-i-test.false ∙ c.loop-i.invariant.0
+returns c =
+    let l = c.args.rest.now in
+    let n = prefix_len (λ x. not (eqb x closes)) l in
+    count_from_yields_List c.filter.result c.count.result c.count.ensures.ran (YieldsList-from_filter _ (λ x. eqb x bar) (YieldsList-at c.filter.ensures.source (YieldsList-from_take_while _ (λ x. not (eqb x closes)) (YieldsList-from_slice l cc) c.take_while.ensures.closure c.take_while.ensures.done (λ x b q k. search (rules, tests)))) c.filter.ensures.closure (λ x b q k. search (rules, tests)))
+    ∙ length-filter (λ x. eqb x bar) (take n l)
+    ∙ bars_counted l

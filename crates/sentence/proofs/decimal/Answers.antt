@@ -1,6 +1,7 @@
 -- `sentence::decimal` meets its contract. Assumes nothing.
 use native.Mathlib.Omega.{arith}
 use Prim.Native.Nat.{◌^◌, ◌<◌}
+use lib.ListN.{length-take}
 use Rattle.decimal.proofs.Decimal.{digits_at_most}
 use Rattle.sentence.proofs.Numbers.{decimal_said}
 use Rattle.sentence.proofs.decimal.Goals as goal
@@ -11,11 +12,17 @@ write_field-end-requires c =
     let k = digits_at_most 19 c.args.number h in
     omega arith
 
-pub slice_bounds-say-end : goal.slice_bounds-say-end
-slice_bounds-say-end c =
+pub slice_bounds-digits-end : goal.slice_bounds-digits-end
+slice_bounds-digits-end c =
     let h : c.args.number < 10 ^ 20 = omega arith in
     let k = digits_at_most 19 c.args.number h in
     omega arith
+
+pub slice_bounds-say-length : goal.slice_bounds-say-length
+slice_bounds-say-length c =
+    let h : c.args.number < 10 ^ 20 = omega arith in
+    let k = digits_at_most 19 c.args.number h in
+    simp length-take (omega arith)
 
 pub returns : goal.returns
 returns c =
