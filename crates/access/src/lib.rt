@@ -20,24 +20,22 @@ pub enum Access {
 }
 
 // The address of a block: whole transfers lie before it, however long it is itself.
+#[tactic(auto, unfolding(crate::specs::Access::block_address))]
 pub fn block_address(block: u16, pointer: u32) -> u64
     ensures { result ≡ block_address transfer_bytes block pointer }
 {
-    if block < 2 {
-        return pointer as u64;
-    }
-    (block - 2) as u64 * Setup::TRANSFER as u64 + pointer as u64
+    block.saturating_sub(2) as u64 * Setup::TRANSFER as u64 + pointer as u64
 }
 
 // The checks that a read and a write share, in their order.
+#[tactic(auto, unfolding(crate::specs::Access::access_of))]
 fn examine(board: Board, protected: bool, address: u64, count: u16) -> Access
     ensures { result ≡ access_of board protected address count }
 {
     if protected {
         return Access::Denied(Device::VENDOR);
     }
-    let place = board.place(address, count as u64);
-    match place {
+    match board.place(address, count as u64) {
         Place::Flash(at) => at_least_two(count, Access::InFlash(at)),
         Place::Ram(at) => at_least_two(count, Access::InRam(at)),
         Place::Options(at) => all_options(board, at, count),
@@ -46,6 +44,7 @@ fn examine(board: Board, protected: bool, address: u64, count: u16) -> Access
 }
 
 // What the block with this number and length may be used for: one rule for reads and writes.
+#[tactic(auto, unfolding(crate::specs::Access::block_access))]
 pub fn examine_block(board: Board, protected: bool, block: u16, count: u16, pointer: u32) -> Access
     ensures { result ≡ block_access board protected block count pointer }
 {
@@ -57,20 +56,18 @@ fn at_least_two(count: u16, access: Access) -> Access
     ensures { result ≡ cond (ltb count 2) (Access.Denied err_target) access }
 {
     if count < 2 {
-        return Access::Denied(Device::TARGET);
+        Access::Denied(Device::TARGET)
+    } else {
+        access
     }
-    access
 }
 
 // Options are used all at once.
 fn all_options(board: Board, at: usize, count: u16) -> Access
     ensures { result ≡ options_at board at count }
 {
-    if at != board.options_from() {
-        return Access::Denied(Device::TARGET);
+    if at == board.options_from() && count as usize == Board::OPTION_BYTES {
+        return Access::InOptions(at);
     }
-    if count as usize != Board::OPTION_BYTES {
-        return Access::Denied(Device::TARGET);
-    }
-    Access::InOptions(at)
+    Access::Denied(Device::TARGET)
 }
