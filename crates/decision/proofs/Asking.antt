@@ -1,10 +1,9 @@
 -- Which requests come to Status. Assumes nothing.
-use mathlib.Core.Path.{◌≡◌, refl, ap, ◌∙◌, sym}
-use mathlib.Core.Bool.{Bool, true, false, cond, false≢true}
+use mathlib.Core.Path.{◌≡◌, refl}
+use mathlib.Core.Bool.{true, false, cond, false≢true}
 use Rattle.request.specs.declared.Setup.{Setup}
-use Rattle.request.specs.declared.Request.{Request}
-use Rattle.request.specs.declared.Request.TheVariants.{Download, Upload, GetStatus, ClearStatus, GetState, Abort, Unknown}
-use Rattle.request.specs.Request.{request_of, is_get_status}
+use Rattle.request.specs.declared.Request.TheVariants.{GetStatus}
+use Rattle.request.specs.Request.{request_of}
 use Rattle.mode.specs.declared.Mode.{Mode}
 use Rattle.mode.specs.declared.Mode.TheVariants.{Idle, DownloadSync, DownloadBusy, DownloadIdle, ManifestSync, UploadIdle, Error, Left, Rebooting}
 use Rattle.device.specs.declared.Device.{Device}
@@ -15,19 +14,9 @@ use Rattle.decision.specs.declared.Decision.TheVariants.{Silent, Stall, Accept, 
 use Rattle.decision.specs.Decide.{silent_of, refused_of, decide_of, is_status}
 use Rattle.decision.proofs.Cases.{decide_case}
 
--- a GETSTATUS that is taken
-abbrev pub asked_in : Request → Mode → Bool
-asked_in Download mode = false
-asked_in Upload mode = false
-asked_in GetStatus mode = allowed_of GetStatus mode
-asked_in ClearStatus mode = false
-asked_in GetState mode = false
-asked_in Abort mode = false
-asked_in Unknown mode = false
-
 module _ (d : Device) (s : Setup) (k : Command) where
   -- no silent mode takes it
-  taken : request_of s ≡ GetStatus → is_status (decide_of d s k) ≡ allowed_of GetStatus d.mode
+  pub taken : request_of s ≡ GetStatus → is_status (decide_of d s k) ≡ allowed_of GetStatus d.mode
   unfolding decide_of allowed_of
   taken e = rw e (go d.mode)
     where
@@ -42,7 +31,7 @@ module _ (d : Device) (s : Setup) (k : Command) where
       go Left = refl
       go Rebooting = refl
 
-  other : (request_of s ≡ GetStatus → ⊥) → is_status (decide_of d s k) ≡ false
+  pub other : (request_of s ≡ GetStatus → ⊥) → is_status (decide_of d s k) ≡ false
   other differs =
       decide_case (λ x. is_status x ≡ false) d s k
       (record {
@@ -60,16 +49,6 @@ module _ (d : Device) (s : Setup) (k : Command) where
         state = λ t. refl;
         status = λ t. absurd (differs t.asked);
       })
-
--- by the request that the setup asks for
-pub status_decided : (d : Device) (s : Setup) (k : Command) (r : Request) → r ≡ request_of s → asked_in r d.mode ≡ is_status (decide_of d s k)
-status_decided d s k GetStatus e = sym (taken d s k (sym e))
-status_decided d s k Download e = sym (other d s k (λ g. absurd (false≢true (ap is_get_status (e ∙ g)))))
-status_decided d s k Upload e = sym (other d s k (λ g. absurd (false≢true (ap is_get_status (e ∙ g)))))
-status_decided d s k ClearStatus e = sym (other d s k (λ g. absurd (false≢true (ap is_get_status (e ∙ g)))))
-status_decided d s k GetState e = sym (other d s k (λ g. absurd (false≢true (ap is_get_status (e ∙ g)))))
-status_decided d s k Abort e = sym (other d s k (λ g. absurd (false≢true (ap is_get_status (e ∙ g)))))
-status_decided d s k Unknown e = sym (other d s k (λ g. absurd (false≢true (ap is_get_status (e ∙ g)))))
 
 pub only_status : (x : Decision) → is_status x ≡ true → x ≡ Status
 only_status Silent e = absurd (false≢true e)

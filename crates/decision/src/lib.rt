@@ -2,7 +2,7 @@
 #![tactic(auto)]
 
 ghost use Rattle.std.specs.Prelude.{◌≡◌};
-ghost use Rattle.decision.specs.Decide.{decide_of, is_status, served_of, download_of, commanded_of, erasing_of, upload_of, listed_count, waiting, waiting_if, refused_of};
+ghost use Rattle.decision.specs.Decide.{decide_of, is_status, served_of, download_of, commanded_of, upload_of, listed_count, waiting, refused_of};
 
 use command::Command;
 use device::{Device, Pending};
@@ -28,20 +28,11 @@ pub enum Decision {
 
 // Does the request come to Status? Most requests of a job do, and no command has to be read for it: a caller may ask
 // this first.
+#[tactic(auto, using(crate::proofs::Asking::taken, crate::proofs::Asking::other))]
 pub fn asks_status(device: Device, setup: Setup) -> bool
     ensures { (k : Command) → result ≡ is_status (decide_of device setup k) }
 {
-    let mode = device.mode;
-    let request = setup.request();
-    match request {
-        Request::GetStatus => mode::allowed(request, mode),
-        Request::Download => false,
-        Request::Upload => false,
-        Request::ClearStatus => false,
-        Request::GetState => false,
-        Request::Abort => false,
-        Request::Unknown => false,
-    }
+    setup.request() == Request::GetStatus && mode::allowed(Request::GetStatus, device.mode)
 }
 
 // A request in any mode.
@@ -49,12 +40,11 @@ pub fn asks_status(device: Device, setup: Setup) -> bool
 pub fn decide(device: Device, setup: Setup, command: Command) -> Decision
     ensures { result ≡ decide_of device setup command }
 {
-    let mode = device.mode;
-    if mode.wire() == 0 {
+    if matches!(device.mode, Mode::Left | Mode::Rebooting) {
         return Decision::Silent;
     }
     let request = setup.request();
-    if !mode::allowed(request, mode) {
+    if !mode::allowed(request, device.mode) {
         return refused(device);
     }
     serve(request, device, setup, command)
@@ -75,61 +65,38 @@ fn serve(request: Request, device: Device, setup: Setup, command: Command) -> De
         Request::Download => download(device, setup, command),
         Request::Upload => upload(device, setup),
         Request::GetStatus => Decision::Status,
-        Request::ClearStatus => Decision::Accept(device.abort()),
+        Request::ClearStatus | Request::Abort => Decision::Accept(device.abort()),
         Request::GetState => Decision::State,
-        Request::Abort => Decision::Accept(device.abort()),
         Request::Unknown => refused(device),
     }
 }
 
 // DNLOAD: leave, a command, or a block to be written.
+#[tactic(auto, unfolding(crate::specs::Decide::download_of))]
 fn download(device: Device, setup: Setup, command: Command) -> Decision
     ensures { result ≡ download_of device setup command }
 {
-    let block = setup.value;
-    let count = setup.length;
-    if count == 0 {
-        return Decision::Accept(device.enter(Mode::ManifestSync));
-    }
-    match block {
-        0 => commanded(device, count, command),
-        1 => refused(device),
-        2..=65535 => Decision::Take(wait(device, Pending::Write { block, count })),
+    match (setup.value, setup.length) {
+        (_, 0) => Decision::Accept(device.enter(Mode::ManifestSync)),
+        (0, count) => commanded(device, count, command),
+        (1, _) => refused(device),
+        (block, count) => Decision::Take(wait(device, Pending::Write { block, count })),
     }
 }
 
 // A command, by its first byte and the number of data bytes.
+#[tactic(auto, unfolding(crate::specs::Decide::commanded_of))]
 fn commanded(device: Device, count: u16, command: Command) -> Decision
     ensures { result ≡ commanded_of device count command }
 {
-    let code = command.code;
-    let address = command.address;
-    match code {
-        0x21 => wait_if(count == 5, device, Pending::SetPointer(address)),
-        0x41 => erase(device, count, address),
-        0x92 => wait_if(count == 1, device, Pending::ReadUnprotect),
-        _ => refused(device),
-    }
-}
-
-// The erase command: of one page where an address follows, else of all.
-fn erase(device: Device, count: u16, address: u32) -> Decision
-    ensures { result ≡ erasing_of device count address }
-{
-    if count == 5 {
-        return Decision::Accept(wait(device, Pending::ErasePage(address)));
-    }
-    wait_if(count == 1, device, Pending::MassErase)
-}
-
-// The command waits, where its data has the right length.
-fn wait_if(fits: bool, device: Device, pending: Pending) -> Decision
-    ensures { result ≡ waiting_if fits device pending }
-{
-    if fits {
-        return Decision::Accept(wait(device, pending));
-    }
-    refused(device)
+    let pending = match (command.code, count) {
+        (0x21, 5) => Pending::SetPointer(command.address),
+        (0x41, 5) => Pending::ErasePage(command.address),
+        (0x41, 1) => Pending::MassErase,
+        (0x92, 1) => Pending::ReadUnprotect,
+        _ => return refused(device),
+    };
+    Decision::Accept(wait(device, pending))
 }
 
 // The device with a command that waits for its GETSTATUS.
@@ -144,17 +111,17 @@ fn wait(device: Device, pending: Pending) -> Device
 }
 
 // UPLOAD: the list of commands, or memory.
+#[tactic(auto, unfolding(crate::specs::Decide::upload_of))]
 fn upload(device: Device, setup: Setup) -> Decision
     ensures { result ≡ upload_of device setup }
 {
-    let block = setup.value;
-    match block {
+    match setup.value {
         0 => Decision::Commands {
             next: device.enter(Mode::Idle),
             count: listed(setup.length),
         },
         1 => refused(device),
-        2..=65535 => Decision::Read,
+        2.. => Decision::Read,
     }
 }
 
@@ -162,8 +129,5 @@ fn upload(device: Device, setup: Setup) -> Decision
 fn listed(count: u16) -> usize
     ensures { result ≡ listed_count count }
 {
-    if count <= 4 {
-        return count as usize;
-    }
-    4
+    count.min(4) as usize
 }
