@@ -1,13 +1,6 @@
--- Laws of texts in other letters: a range of bytes, a turn of the loop, and its end. Assumes nothing.
-use Rattle.std.proofs.Common.{◌≡◌, ℕ, suc, ◌+◌, ◌<◌, ◌≤◌, Bool, true, ◌&&◌, eqb, leb, List, [], ◌∷◌, ◌++◌, length, get_or, take, drop, set, sym, ap, ◌∙◌, append_assoc, add-one, arith, take-append-drop, drop_of_length-le, drop-cons, take-suc-set, drop-set-lt, leb-true}
-use Rattle.laws.proofs.Split.{and_true}
+-- Laws of texts in other letters: a turn of the loop, and its end. Assumes nothing.
+use Rattle.std.proofs.Common.{◌≡◌, ℕ, suc, ◌+◌, ◌<◌, ◌≤◌, Bool, eqb, List, [], ◌∷◌, ◌++◌, length, get_or, take, drop, set, sym, ap, ◌∙◌, append_assoc, add-one, arith, take-append-drop, drop_of_length-le, drop-cons, take-suc-set, drop-set-lt}
 use Rattle.vectors.specs.Vectors.{small_at, letter_of, respelled_of}
-
--- what a test for a range of bytes tells
-pub between : (low high b : ℕ) → (leb low b && leb b high) ≡ true → (low ≤ b) × (b ≤ high)
-between low high b e =
-    let p = and_true (leb low b) (leb b high) e in
-    (leb-true _ _ p.0, leb-true _ _ p.1)
 
 pub respelled_turn : (mixed first s : Bool) (i v : ℕ) (m : List ℕ) → i < length m → s ≡ small_at mixed i → v ≡ letter_of first s (get_or m i 0) → take (i + 1) (set m i v) ++ respelled_of mixed (i + 1) (eqb (get_or m i 0) 10) (drop (i + 1) (set m i v)) ≡ take i m ++ respelled_of mixed i first (drop i m)
 unfolding respelled_of

@@ -5,6 +5,3 @@ use Rattle.vectors.proofs.repeat.Given as goal
 
 abbrev pub invariant-loop-i : goal.invariant-loop-i
 invariant-loop-i l = (again_of (l.count - l.i) l.i l.from l.period l.at l.buffer ≡ again_of l.count 0 l.from l.period l.at l.initial.buffer) × (length l.buffer ≡ length l.initial.buffer)
-
-abbrev pub decreases-loop-i : goal.decreases-loop-i
-decreases-loop-i l = l.count - l.i
