@@ -58,18 +58,11 @@ module _ (board : Board) (t : List ℕ) (at : ℕ) (d : Device) (w : Work) where
         ap₂ (λ (y : Setup) (xs : List ℕ). request_moves board d y xs w) (sym x.asked) (sym x.spells)
         ∙ sym did ∙ ap (λ (z : Bool). cond z falls (goes g.device w')) e
 
-    pub request-fallen : (r : Onward) → g.falls ≡ true → r.falls ≡ true → Advanced board t at d w r w'
-    request-fallen r e f =
+    pub request_advanced : Sound board → well_formed board d ≡ true → Advanced board t at d w (record { falls = g.falls; device = g.device; behind = next }) w'
+    request_advanced sound f =
         record {
-          fallen = λ z. fallen (request x.bytes) next x.onward (moves_as true e);
-          further = λ z. absurd (false≢true (sym z ∙ f));
-        }
-
-    pub request-further : Sound board → well_formed board d ≡ true → g.falls ≡ false → Advanced board t at d w (record { falls = false; device = g.device; behind = next }) w'
-    request-further sound f e =
-        record {
-          fallen = λ z. absurd (false≢true z);
-          further = λ z. further sound f (request x.bytes) next x.onward g.device w' (moves_as false e);
+          fallen = λ z. fallen (request x.bytes) next x.onward (moves_as true z);
+          further = λ z. further sound f (request x.bytes) next x.onward g.device w' (moves_as false z);
         }
 
 -- a run over the events in turn, after k of them

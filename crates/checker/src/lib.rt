@@ -1,7 +1,7 @@
 // The job checker: it walks a job's text over the work area, event by event, and looks at the end.
 #![tactic(auto)]
 
-ghost use Rattle.std.specs.Prelude.{◌≡◌, true, false, not, ◌&&◌, eqb, ◌≤◌, ◌<◌, length};
+ghost use Rattle.std.specs.Prelude.{◌≡◌, true, false, ◌≤◌, ◌<◌, length, unwrap_or, IfSome};
 ghost use Rattle.board.specs.Layout.{logger, flash_bytes, option_bytes, memory_bytes};
 ghost use Rattle.board.specs.Memory.{options_of};
 ghost use Rattle.board.specs.Sound.{Sound};
@@ -9,7 +9,7 @@ ghost use Rattle.device.specs.State.{started};
 ghost use Rattle.states.specs.WellFormed.{well_formed};
 ghost use Rattle.laws.specs.Lists.{same};
 ghost use Rattle.text.specs.Text.{events_of};
-ghost use Rattle.demand.specs.Verdict.{is_left, pages_end};
+ghost use Rattle.demand.specs.Verdict.{pages_end};
 ghost use Rattle.checker.specs.Walk.{Ahead, Advanced, over_as, InPlace};
 ghost use Rattle.verdict.specs.Report.{in_fields};
 ghost use Rattle.marks.specs.Area.{work_bytes};
@@ -25,6 +25,7 @@ use text::Item;
 use verdict::Verdict;
 
 // Can flash offset f be wrong on some board?
+#[tactic(auto, unfolding(judgement::specs::Judgement::suspect))]
 fn is_suspect(board: Board, image: &[u8], work: &[u8], f: usize) -> bool
     requires { Sound board × (length work.now ≡ work_bytes board) × (f < flash_bytes board) × (length image.now ≤ flash_bytes board) }
     ensures { result ≡ suspect board image.now (work_of board work.now) f }
@@ -33,25 +34,16 @@ fn is_suspect(board: Board, image: &[u8], work: &[u8], f: usize) -> bool
     let known = marks::is_known(board, work, place);
     let value = marks::value(board, work, place);
     if f < image.len() {
-        return differs(known, value, image[f]);
+        !(known && value == image[f])
+    } else if f < pages_end(board, image) {
+        !(known && value == 0xFF)
+    } else {
+        known
     }
-    if f < pages_end(board, image) {
-        return differs(known, value, 0xFF);
-    }
-    known
-}
-
-// Can a byte of this value, known or not, be another than the one wanted?
-fn differs(known: bool, value: u8, want: u8) -> bool
-    ensures { result ≡ not (known && eqb value want) }
-{
-    if !known {
-        return true;
-    }
-    value != want
 }
 
 // The flash offset at which the image's last page ends.
+#[tactic(auto, using(board::proofs::Pages::pages_fit, board::proofs::Pages::flash_is_pages))]
 fn pages_end(board: Board, image: &[u8]) -> usize
     requires { Sound board × (length image.now ≤ flash_bytes board) }
     ensures { result ≡ pages_end board image.now }
@@ -60,64 +52,58 @@ fn pages_end(board: Board, image: &[u8]) -> usize
 }
 
 // Does flash begin with the image, and is it erased from there up to offset `end`?
+#[tactic(auto, using(crate::proofs::Right::in_place_is))]
 fn is_laid(board: Board, memory: &[u8], image: &[u8], end: usize) -> bool
     requires { Sound board × (length memory.now ≡ memory_bytes board) × (length image.now ≤ end) × (end ≤ flash_bytes board) }
     ensures { result ≡ true → InPlace board memory.now image.now end }
 {
     let flash = board.flash_from();
     let behind = flash + image.len();
-    if !compare::same_bytes(&memory[flash..behind], image) {
-        return false;
-    }
-    compare::all_are(memory, behind, flash + end, 0xFF)
+    compare::same_bytes(&memory[flash..behind], image)
+        && compare::all_are(memory, behind, flash + end, 0xFF)
 }
 
 // Do long comparisons show that no offset is suspect? Where they do not, only a search can tell.
+#[tactic(auto, using(crate::proofs::Right::image_in_pages, crate::proofs::Right::pages_end_in_flash))]
 fn is_right(board: Board, image: &[u8], work: &[u8]) -> bool
     requires { Sound board × (length work.now ≡ work_bytes board) × (length image.now ≤ flash_bytes board) }
     ensures { result ≡ true → flash_bytes board ≡ lowest_from (suspect board image.now (work_of board work.now)) (flash_bytes board) 0 }
 {
-    let end = pages_end(board, image);
-    let values = marks::values_from(board);
-    let behind = values + board.memory_bytes();
-    if !is_laid(board, &work[values..behind], image, end) {
-        return false;
-    }
     let flash = board.flash_from();
-    if !marks::all_known(board, work, flash, flash + end) {
-        return false;
-    }
-    marks::none_known(board, work, flash + end, flash + board.flash_bytes())
+    let end = pages_end(board, image);
+    is_laid(board, marks::values(board, work), image, end)
+        && marks::all_known(board, work, flash, flash + end)
+        && marks::none_known(board, work, flash + end, flash + board.flash_bytes())
 }
 
-// The lowest suspect offset, or the size of the flash.
-fn search(board: Board, image: &[u8], work: &[u8]) -> usize
+// The lowest suspect offset.
+#[tactic(auto, using(crate::proofs::Walking::lowest_turn, crate::proofs::Walking::lowest_end))]
+fn search(board: Board, image: &[u8], work: &[u8]) -> Option<usize>
     requires { Sound board × (length work.now ≡ work_bytes board) × (length image.now ≤ flash_bytes board) }
-    ensures { result ≡ lowest_from (suspect board image.now (work_of board work.now)) (flash_bytes board) 0 }
+    ensures { (unwrap_or result (flash_bytes board) ≡ lowest_from (suspect board image.now (work_of board work.now)) (flash_bytes board) 0) × IfSome result (λ f. f < flash_bytes board) }
 {
-    let size = board.flash_bytes();
-    let mut f = 0;
-    while f < size {
+    for f in 0..board.flash_bytes() {
         if is_suspect(board, image, work, f) {
-            return f;
+            return Some(f);
         }
-        f += 1;
     }
-    f
+    None
 }
 
 // The same; it searches only where something can be suspect.
-fn first_suspect(board: Board, image: &[u8], work: &[u8]) -> usize
+fn first_suspect(board: Board, image: &[u8], work: &[u8]) -> Option<usize>
     requires { Sound board × (length work.now ≡ work_bytes board) × (length image.now ≤ flash_bytes board) }
-    ensures { result ≡ lowest_from (suspect board image.now (work_of board work.now)) (flash_bytes board) 0 }
+    ensures { (unwrap_or result (flash_bytes board) ≡ lowest_from (suspect board image.now (work_of board work.now)) (flash_bytes board) 0) × IfSome result (λ f. f < flash_bytes board) }
 {
     if is_right(board, image, work) {
-        return board.flash_bytes();
+        None
+    } else {
+        search(board, image, work)
     }
-    search(board, image, work)
 }
 
 // Are the option bytes of a memory those of the card?
+#[tactic(auto, using(board::proofs::Options::options_lent))]
 fn has_card(board: Board, memory: &[u8], card: &[u8]) -> bool
     requires { Sound board × (length memory.now ≡ memory_bytes board) × (length card.now ≡ option_bytes) }
     ensures { result ≡ same (options_of board memory.now) card.now }
@@ -128,58 +114,39 @@ fn has_card(board: Board, memory: &[u8], card: &[u8]) -> bool
 }
 
 // The end conditions, then the flash.
+#[tactic(auto, unfolding(judgement::specs::Judgement::end_verdict))]
 fn finish(board: Board, device: Device, image: &[u8], card: &[u8], work: &[u8]) -> Verdict
     requires { Sound board × (length work.now ≡ work_bytes board) × (length image.now ≤ flash_bytes board) × (length card.now ≡ option_bytes) }
     ensures { result ≡ end_verdict board image.now card.now device (work_of board work.now) }
 {
-    let values = marks::values_from(board);
-    let behind = values + board.memory_bytes();
-    let same = has_card(board, &work[values..behind], card);
-    let fault = end_fault(board, device, same);
-    if fault < 4 {
+    let same = has_card(board, marks::values(board, work), card);
+    if let Some(fault) = end_fault(board, device, same) {
         return Verdict::End(fault);
     }
-    let f = first_suspect(board, image, work);
-    if f < board.flash_bytes() {
-        return Verdict::Flash(f);
+    match first_suspect(board, image, work) {
+        Some(f) => Verdict::Flash(f),
+        None => Verdict::Pass,
     }
-    Verdict::Pass
 }
 
-// The first end condition that fails, or 4: has the board left, from the first address, with the same options?
-fn end_fault(board: Board, device: Device, same: bool) -> u8
-    ensures { result ≡ end_number board device same }
+// The number of the first end condition that fails: has the board left, from the first address, with the same options?
+#[tactic(auto, unfolding(judgement::specs::Judgement::end_number, judgement::specs::Judgement::lowest_from, demand::specs::Verdict::end_fails))]
+fn end_fault(board: Board, device: Device, same: bool) -> Option<u8>
+    ensures { (unwrap_or result 4 ≡ end_number board device same) × IfSome result (λ c. c < 4) }
 {
-    let mode = device.mode;
-    if !has_left(mode) {
-        return 1;
-    }
-    if device.pointer != board.flash_first() {
-        return 2;
-    }
-    if !same {
-        return 3;
-    }
-    4
-}
-
-fn has_left(mode: Mode) -> bool
-    ensures { result ≡ is_left mode }
-{
-    match mode {
-        Mode::Idle => false,
-        Mode::DownloadSync => false,
-        Mode::DownloadBusy => false,
-        Mode::DownloadIdle => false,
-        Mode::ManifestSync => false,
-        Mode::UploadIdle => false,
-        Mode::Error => false,
-        Mode::Left => true,
-        Mode::Rebooting => false,
+    if device.mode != Mode::Left {
+        Some(1)
+    } else if device.pointer != board.flash_first() {
+        Some(2)
+    } else if !same {
+        Some(3)
+    } else {
+        None
     }
 }
 
-// How far the next event of a job brings all boards; `behind` is where the line after it begins.
+// How far the next event of a job brings all boards; `behind` is where the line after it begins. A flag and no Option,
+// as area::Step.
 #[derive(Clone, Copy)]
 struct Onward {
     falls: bool,
@@ -203,32 +170,26 @@ fn advance(board: Board, device: Device, job: &[u8], at: usize, work: &mut [u8])
     requires { Sound board × (length work.old ≡ work_bytes board) × (well_formed board device ≡ true) × Ahead job.now at × (at < length job.now) }
     ensures { Advanced board job.now at device (work_of board work.old) result (work_of board work.new) }
 {
-    let item = text::event_at(job, at);
-    match item {
-        Item::End => stuck(device, at),
-        Item::Bad => stuck(device, at),
+    match text::event_at(job, at) {
+        Item::End | Item::Bad => stuck(device, at),
         Item::Attach { next } => Onward {
             falls: false,
             device: device.attach(board),
             behind: next,
         },
         Item::Request { setup, data, next } => {
-            let end = next - 1;
-            let step = area::request(board, device, setup, &job[data..end], work);
-            if step.falls {
-                return stuck(device, at);
-            }
-            let after = step.device;
+            let step = area::request(board, device, setup, &job[data..next - 1], work);
             Onward {
-                falls: false,
-                device: after,
+                falls: step.falls,
+                device: step.device,
                 behind: next,
             }
         }
     }
 }
 
-// The events of a job in turn: the state of all boards behind them, or the number of the first that fails.
+// The events of a job in turn: the state of all boards behind them, or the number of the first that fails. Each begins
+// where the line before it ended, so that no range counts them.
 fn run(board: Board, job: &[u8], work: &mut [u8]) -> Result<Device, usize>
     requires { Sound board × (length work.old ≡ work_bytes board) × Ahead job.now 0 }
     ensures { over_as result (work_of board work.new) ≡ over_of board (events_of job.now) (started board) (work_of board work.old) 0 }
@@ -242,14 +203,14 @@ fn run(board: Board, job: &[u8], work: &mut [u8]) -> Result<Device, usize>
         if onward.falls {
             return Err(events);
         }
-        let after = onward.device;
-        device = after;
+        device = onward.device;
         at = onward.behind;
     }
     Ok(device)
 }
 
 // The options are known from the start, and nothing else.
+#[tactic(auto, using(crate::proofs::Beginning::begin_is))]
 fn begin(board: Board, card: &[u8], work: &mut [u8])
     requires { Sound board × (length work.old ≡ work_bytes board) × (length card.now ≡ option_bytes) }
     ensures { work_of board work.new ≡ begun board card.now (work_of board work.old) }

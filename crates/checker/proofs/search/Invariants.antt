@@ -6,7 +6,4 @@ use mathlib.Core.Path.{◌≡◌}
 use Rattle.checker.proofs.search.Given as goal
 
 abbrev pub invariant-loop-f : goal.invariant-loop-f
-invariant-loop-f l = lowest_from (suspect l.board l.image (work_of l.board l.work)) (l.size - l.f) l.f ≡ lowest_from (suspect l.board l.image (work_of l.board l.work)) l.size 0
-
-abbrev pub decreases-loop-f : goal.decreases-loop-f
-decreases-loop-f l = l.size - l.f
+invariant-loop-f l = lowest_from (suspect l.board l.image (work_of l.board l.work)) (l.f-end - l.f) l.f ≡ lowest_from (suspect l.board l.image (work_of l.board l.work)) l.f-end 0
