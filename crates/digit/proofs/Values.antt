@@ -1,13 +1,12 @@
 -- Laws of a digit: what `value_of` is in each range, that value and capital digit undo each other, and the byte of two. Assumes nothing.
 use mathlib.Core.Path.{◌≡◌, ap, ap₂, ◌∙◌, sym}
-use mathlib.Core.Bool.{◌&&◌, ◌||◌}
 use mathlib.Core.Logic.{◌⊎◌, inl, inr, ⊎_elim}
 use Prim.Native.Nat.{ℕ, ◌+◌, ◌-◌, ◌*◌, ◌/◌, ◌%◌, ◌≤◌, ◌<◌}
 use native.Mathlib.Omega.{arith}
-use lib.Bits.{bit_or}
 use lib.Dec.{leb, ltb}
 use lib.ListN.{replicate}
 use borrow.Author.Tests.{le-leb, lt-leb, lt-ltb, le-ltb}
+use Rattle.std.specs.Char.{is_ascii_hexdigit}
 use Rattle.laws.specs.Table.{agree}
 use Rattle.laws.proofs.Table.{every_at, agree_eq}
 use Rattle.laws.proofs.Split.{by_lt, and_right_false}
@@ -182,12 +181,12 @@ digit_mod x =
     let e : x % 16 % 16 ≡ x % 16 = omega arith in
     rw e
 
--- the test of one byte, at each of them
-pub digit_told : (d : ℕ) → d < 256 → ((ltb 47 d && ltb d 58) || (ltb 96 (bit_or d 32) && ltb (bit_or d 32) 103)) ≡ ltb (value_of d) 16
+-- the library's test of one byte, at each of them
+pub digit_told : (d : ℕ) → d < 256 → is_ascii_hexdigit d ≡ ltb (value_of d) 16
 unfolding value_of capital_of
 digit_told d h =
-    agree_eq ((ltb 47 d && ltb d 58) || (ltb 96 (bit_or d 32) && ltb (bit_or d 32) 103)) (ltb (value_of d) 16)
-    (every_at (λ (k x : ℕ). agree ((ltb 47 k && ltb k 58) || (ltb 96 (bit_or k 32) && ltb (bit_or k 32) 103)) (ltb (value_of k) 16)) 0 (replicate 256 0) tt d h)
+    agree_eq (is_ascii_hexdigit d) (ltb (value_of d) 16)
+    (every_at (λ (k x : ℕ). agree (is_ascii_hexdigit k) (ltb (value_of k) 16)) 0 (replicate 256 0) tt d h)
 
 -- the value of a digit without a test
 pub half_value : (d : ℕ) → value_of d < 16 → d % 16 + d / 64 * 9 ≡ value_of d
