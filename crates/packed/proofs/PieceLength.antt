@@ -55,18 +55,18 @@ not_well : (x : ℕ) → (x ≡ 0 → ⊥) → well_packed (x ∷ []) ≡ false
 unfolding well_packed fits event_in fits_of
 not_well x n = rw (ne_eqb x 0 n)
 
-pub no_piece : (u : List ℕ) → length u ≡ 0 → 0 ≡ piece_length u
+pub no_piece : (u : List ℕ) → length u < 1 → 0 ≡ piece_length u
 no_piece [] h = piece_bad [] not_well_empty
 no_piece (x ∷ t) h = absurd (omega arith)
 
-pub attach_piece : (u : List ℕ) → (length u ≡ 0 → ⊥) → get_or u 0 0 ≡ 0 → 1 ≡ piece_length u
-attach_piece [] h k = absurd (h refl)
+pub attach_piece : (u : List ℕ) → 1 ≤ length u → get_or u 0 0 ≡ 0 → 1 ≡ piece_length u
+attach_piece [] h k = absurd (omega arith)
 attach_piece (x ∷ t) h k =
     let f : first_piece (x ∷ t) ≡ 0 ∷ [] = first_other x t (λ z. omega arith) ∙ ap (λ (y : ℕ). y ∷ []) k in
     sym (piece_good (x ∷ t) (ap well_packed f ∙ well_attach) ∙ ap length f)
 
-pub other_piece : (u : List ℕ) → (length u ≡ 0 → ⊥) → (get_or u 0 0 ≡ 0 → ⊥) → (get_or u 0 0 ≡ 1 → ⊥) → 0 ≡ piece_length u
-other_piece [] h m n = absurd (h refl)
+pub other_piece : (u : List ℕ) → 1 ≤ length u → (get_or u 0 0 ≡ 0 → ⊥) → (get_or u 0 0 ≡ 1 → ⊥) → 0 ≡ piece_length u
+other_piece [] h m n = absurd (omega arith)
 other_piece (x ∷ t) h m n = piece_bad (x ∷ t) (ap well_packed (first_other x t n) ∙ not_well x m)
 
 -- a packed request: its kind byte, and then as many bytes as it asks for

@@ -1,10 +1,10 @@
 -- One turn of the loop that writes a packed list's text, and its end. Assumes nothing.
 use mathlib.Core.Path.{◌≡◌, refl, ap, ap₂, ◌∙◌, sym}
 use mathlib.Core.Bool.{true, true≢false}
-use mathlib.Core.List.{List, [], ◌++◌}
+use mathlib.Core.List.{List, [], ◌∷◌, ◌++◌}
 use Prim.Native.Nat.{ℕ, ◌+◌, ◌-◌, ◌≤◌, ◌<◌}
 use native.Mathlib.Omega.{arith}
-use lib.ListN.{length, take, drop, get_or, set, length-append, length-drop, drop_of_length-le}
+use lib.ListN.{length, take, drop, get_or, set, length-append, length-drop}
 use lib.Seq.{sets, length-take-le, take_all, take-length}
 use borrow.Author.Tests.{eq-eqb, ne_eqb}
 use Rattle.laws.specs.Bytes.{put}
@@ -75,49 +75,50 @@ take-first u =
     ap (λ (l : List ℕ). take (length l) u) e ∙ take-length u ∙ sym e)
     (λ h. ap (λ (n : ℕ). take n u) (length-take-le (piece_size u) u h))
 
-module _ (p : List ℕ) (at piece : ℕ) (more : at < length p) (is : piece ≡ piece_length (take (length p - at) (drop at p))) (good : packs (drop at p) ≡ true) where
-  nonzero : piece ≡ 0 → ⊥
-  nonzero z = true≢false (sym good ∙ turn_broken p at piece more is z)
-
-  pub next_some : 1 ≤ piece
-  next_some = let n = nonzero in omega arith
+-- what is left of a packed list of whole events, where there is an event
+module _ (p : List ℕ) (good : packs p ≡ true) (piece : ℕ) (is : piece ≡ piece_length p) (some : 0 < piece) (within : piece ≤ length p) where
+  more : 0 < length p
+  more = omega arith
 
   -- the next piece, as a callee sees it
-  next_piece : take (at + piece - at) (drop at p) ≡ first_piece (drop at p)
-  next_piece =
-      let e : at + piece - at ≡ piece = omega arith in
-      ap (λ (n : ℕ). take n (drop at p)) (e ∙ piece_is p at piece more is nonzero) ∙ take-first (drop at p)
+  next_piece : take piece p ≡ first_piece p
+  next_piece = ap (λ (n : ℕ). take n p) (piece_is p more piece is some) ∙ take-first p
 
-  pub next_well : well_packed (take (at + piece - at) (drop at p)) ≡ true
-  next_well = ap well_packed next_piece ∙ well p at piece more is nonzero
+  pub next_well : well_packed (take piece p) ≡ true
+  next_well = ap well_packed next_piece ∙ well p more piece is some
 
-  pub next_packs : packs (drop (at + piece) p) ≡ true
-  next_packs = sym (turn_packs p at piece more is nonzero) ∙ good
+  pub next_packs : packs (drop piece p) ≡ true
+  next_packs = sym (turn_packs p more piece is some) ∙ good
 
-  text : text_of (unpacked (drop at p)) ≡ line_of (event_in (take (at + piece - at) (drop at p))) ++ text_of (unpacked (drop (at + piece) p))
-  text = turn_text p at piece more is nonzero ∙ ap (λ (l : List ℕ). line_of (event_in l) ++ text_of (unpacked (drop (at + piece) p))) (sym next_piece)
+  text : text_of (unpacked p) ≡ line_of (event_in (take piece p)) ++ text_of (unpacked (drop piece p))
+  text = turn_text p more piece is some ∙ ap (λ (l : List ℕ). line_of (event_in l) ++ text_of (unpacked (drop piece p))) (sym next_piece)
 
-  text-length : length (text_of (unpacked (drop at p))) ≡ length (line_of (event_in (take (at + piece - at) (drop at p)))) + length (text_of (unpacked (drop (at + piece) p)))
-  text-length = ap length text ∙ length-append (line_of (event_in (take (at + piece - at) (drop at p)))) (text_of (unpacked (drop (at + piece) p)))
+  text-length : length (text_of (unpacked p)) ≡ length (line_of (event_in (take piece p))) + length (text_of (unpacked (drop piece p)))
+  text-length = ap length text ∙ length-append (line_of (event_in (take piece p))) (text_of (unpacked (drop piece p)))
 
-  pub next_room : (to total n : ℕ) → to + length (text_of (unpacked (drop at p))) ≡ total → total ≤ n → to + length (line_of (event_in (take (at + piece - at) (drop at p)))) ≤ n
+  pub next_room : (to total n : ℕ) → to + length (text_of (unpacked p)) ≡ total → total ≤ n → to + length (line_of (event_in (take piece p))) ≤ n
   next_room to total n s h = let e = text-length in omega arith
 
-  pub next_total : (line to total : ℕ) → line ≡ length (line_of (event_in (take (at + piece - at) (drop at p)))) → to + length (text_of (unpacked (drop at p))) ≡ total → to + line + length (text_of (unpacked (drop (at + piece) p))) ≡ total
+  pub next_total : (line to total : ℕ) → line ≡ length (line_of (event_in (take piece p))) → to + length (text_of (unpacked p)) ≡ total → to + line + length (text_of (unpacked (drop piece p))) ≡ total
   next_total line to total k s = let e = text-length in omega arith
 
-  pub next_laid : (out out₂ : List ℕ) (to line : ℕ) → to + length (line_of (event_in (take (at + piece - at) (drop at p)))) ≤ length out → line ≡ length (line_of (event_in (take (at + piece - at) (drop at p)))) → out₂ ≡ put to (line_of (event_in (take (at + piece - at) (drop at p)))) out → sets out₂ (to + line) (text_of (unpacked (drop (at + piece) p))) ≡ sets out to (text_of (unpacked (drop at p)))
+  pub next_laid : (out out₂ : List ℕ) (to line : ℕ) → to + length (line_of (event_in (take piece p))) ≤ length out → line ≡ length (line_of (event_in (take piece p))) → out₂ ≡ put to (line_of (event_in (take piece p))) out → sets out₂ (to + line) (text_of (unpacked (drop piece p))) ≡ sets out to (text_of (unpacked p))
   next_laid out out₂ to line room k put_is =
-      let l = line_of (event_in (take (at + piece - at) (drop at p))) in
-      let r = text_of (unpacked (drop (at + piece) p)) in
+      let l = line_of (event_in (take piece p)) in
+      let r = text_of (unpacked (drop piece p)) in
       ap₂ (λ (m : List ℕ) (i : ℕ). sets m (to + i) r) (put_is ∙ sym (sets-put l out to room)) k ∙ sym (sets-append l r out to) ∙ ap (sets out to) (sym text)
 
 none : text_of (unpacked []) ≡ []
 unfolding text_of unpacked events_among pieces_after
 none = refl
 
-pub spell_end : (p out out₀ : List ℕ) (at to : ℕ) → length p ≤ at → length (text_of (unpacked p)) ≤ length out₀ → sets out to (text_of (unpacked (drop at p))) ≡ sets out₀ 0 (text_of (unpacked p)) → out ≡ put 0 (text_of (unpacked p)) out₀
-spell_end p out out₀ at to h room e =
-    let d : drop at p ≡ [] = drop_of_length-le p h in
+-- where there is no event, none is left
+no_more : (p : List ℕ) → packs p ≡ true → 0 ≡ piece_length p → p ≡ []
+no_more [] good z = refl
+no_more (x ∷ p) good z = absurd (true≢false (sym good ∙ turn_broken (x ∷ p) (omega arith) z))
+
+pub spell_end : (p rest out out₀ : List ℕ) (to : ℕ) → packs rest ≡ true → 0 ≡ piece_length rest → length (text_of (unpacked p)) ≤ length out₀ → sets out to (text_of (unpacked rest)) ≡ sets out₀ 0 (text_of (unpacked p)) → out ≡ put 0 (text_of (unpacked p)) out₀
+spell_end p rest out out₀ to good z room e =
+    let d : rest ≡ [] = no_more rest good z in
     let r : 0 + length (text_of (unpacked p)) ≤ length out₀ = omega arith in
     ap (λ (l : List ℕ). sets out to l) (sym none) ∙ ap (λ (l : List ℕ). sets out to (text_of (unpacked l))) (sym d) ∙ e ∙ sets-put (text_of (unpacked p)) out₀ 0 r

@@ -5,11 +5,10 @@ use mathlib.Core.List.{List, [], ◌∷◌, ◌++◌}
 use Prim.Native.Nat.{ℕ, suc, ◌+◌, ◌-◌, ◌*◌, ◌≤◌, ◌<◌}
 use native.Mathlib.Omega.{arith}
 use native.Mathlib.Nat.{add_assoc}
-use lib.ListN.{length, take, drop, length-append, length-drop, drop_of_length-le}
-use lib.Seq.{drop-drop, length-take-le, take_all, drop-length}
+use lib.ListN.{length, drop, length-append, drop_of_length-le}
+use lib.Seq.{length-take-le, take_all, drop-length}
 use borrow.Author.Tests.{lt-ltb, le-ltb}
 use Rattle.std.specs.Prelude.{Ok, Err}
-use Rattle.laws.proofs.Bytes.{rest_is}
 use Rattle.laws.proofs.Split.{by_bool, by_lt}
 use Rattle.refusal.specs.declared.Refusal.TheVariants.{Request}
 use Rattle.request.proofs.Lengths.{fits_eight}
@@ -104,51 +103,45 @@ piece_some u h =
     (λ k. let l : length u ≤ piece_size u = omega arith in rw (take_all (piece_size u) u l) h)
     (λ k. rw (length-take-le (piece_size u) u k) (omega arith))
 
--- what is left of a packed list, as a callee sees it
-module _ (p : List ℕ) (at piece : ℕ) (more : at < length p) (is : piece ≡ piece_length (take (length p - at) (drop at p))) where
-  left_is : piece ≡ piece_length (drop at p)
-  left_is = is ∙ ap piece_length (rest_is at p)
-
-  some : 0 < length (drop at p)
-  some = simp length-drop (omega arith)
-
+-- what is left of a packed list
+module _ (p : List ℕ) (more : 0 < length p) where
   -- a turn at an event that is not well packed
-  pub turn_broken : piece ≡ 0 → packs (drop at p) ≡ false
+  pub turn_broken : 0 ≡ piece_length p → packs p ≡ false
   unfolding packs all_packed
   turn_broken z =
-      by_bool (well_packed (first_piece (drop at p)))
-      (λ h. let l : piece_length (drop at p) ≡ length (first_piece (drop at p)) = piece_good (drop at p) h in let w = piece_some (drop at p) some in let e = left_is in absurd (omega arith))
-      (λ h. rw (pieces_first (drop at p) some, h))
+      by_bool (well_packed (first_piece p))
+      (λ h. let l : piece_length p ≡ length (first_piece p) = piece_good p h in let w = piece_some p more in absurd (omega arith))
+      (λ h. rw (pieces_first p more, h))
 
   -- a turn at a well-packed event
-  module _ (nonzero : piece ≡ 0 → ⊥) where
-    pub well : well_packed (first_piece (drop at p)) ≡ true
-    well = by_bool (well_packed (first_piece (drop at p))) (λ h. h) (λ h. absurd (nonzero (left_is ∙ sym (piece_bad (drop at p) h))))
+  module _ (piece : ℕ) (is : piece ≡ piece_length p) (some : 0 < piece) where
+    pub well : well_packed (first_piece p) ≡ true
+    well = by_bool (well_packed (first_piece p)) (λ h. h) (λ h. let z : 0 ≡ piece_length p = piece_bad p h in absurd (omega arith))
 
-    pub piece_is : piece ≡ length (first_piece (drop at p))
-    piece_is = left_is ∙ piece_good (drop at p) well
+    pub piece_is : piece ≡ length (first_piece p)
+    piece_is = is ∙ piece_good p well
 
-    after : drop (piece_size (drop at p)) (drop at p) ≡ drop (at + piece) p
-    after = sym (drop-first (drop at p)) ∙ ap (λ (n : ℕ). drop n (drop at p)) (sym piece_is) ∙ drop-drop piece at p
+    after : drop (piece_size p) p ≡ drop piece p
+    after = sym (drop-first p) ∙ ap (λ (n : ℕ). drop n p) (sym piece_is)
 
-    pieces : pieces_after 0 (drop at p) ≡ first_piece (drop at p) ∷ pieces_after 0 (drop (at + piece) p)
-    pieces = pieces_first (drop at p) some ∙ ap (λ (l : List ℕ). first_piece (drop at p) ∷ pieces_after 0 l) after
+    pieces : pieces_after 0 p ≡ first_piece p ∷ pieces_after 0 (drop piece p)
+    pieces = pieces_first p more ∙ ap (λ (l : List ℕ). first_piece p ∷ pieces_after 0 l) after
 
-    pub turn_packs : packs (drop at p) ≡ packs (drop (at + piece) p)
+    pub turn_packs : packs p ≡ packs (drop piece p)
     unfolding packs all_packed
     turn_packs = rw (pieces, well)
 
-    pub turn_text : text_of (unpacked (drop at p)) ≡ line_of (event_in (first_piece (drop at p))) ++ text_of (unpacked (drop (at + piece) p))
+    pub turn_text : text_of (unpacked p) ≡ line_of (event_in (first_piece p)) ++ text_of (unpacked (drop piece p))
     unfolding unpacked events_among text_of
     turn_text = rw pieces
 
-    turn_line : length (line_of (event_in (first_piece (drop at p)))) ≡ line_size piece
-    turn_line = line_size_of (event_in (first_piece (drop at p))) (well_fits (first_piece (drop at p)) well) ∙ ap (λ (l : List ℕ). line_size (length l)) (well_pack (first_piece (drop at p)) well) ∙ ap line_size (sym piece_is)
+    turn_line : length (line_of (event_in (first_piece p))) ≡ line_size piece
+    turn_line = line_size_of (event_in (first_piece p)) (well_fits (first_piece p) well) ∙ ap (λ (l : List ℕ). line_size (length l)) (well_pack (first_piece p) well) ∙ ap line_size (sym piece_is)
 
-    pub turn_capped : (size longer total : ℕ) → longer ≡ capped (size + line_size piece) → capped (size + length (text_of (unpacked (drop at p)))) ≡ total → capped (longer + length (text_of (unpacked (drop (at + piece) p)))) ≡ total
+    pub turn_capped : (size longer total : ℕ) → longer ≡ capped (size + line_size piece) → capped (size + length (text_of (unpacked p))) ≡ total → capped (longer + length (text_of (unpacked (drop piece p)))) ≡ total
     turn_capped size longer total e s =
-        let r = length (text_of (unpacked (drop (at + piece) p))) in
-        let l : length (text_of (unpacked (drop at p))) ≡ line_size piece + r = ap length turn_text ∙ length-append (line_of (event_in (first_piece (drop at p)))) (text_of (unpacked (drop (at + piece) p))) ∙ ap (λ (n : ℕ). n + r) turn_line in
+        let r = length (text_of (unpacked (drop piece p))) in
+        let l : length (text_of (unpacked p)) ≡ line_size piece + r = ap length turn_text ∙ length-append (line_of (event_in (first_piece p))) (text_of (unpacked (drop piece p))) ∙ ap (λ (n : ℕ). n + r) turn_line in
         ap (λ (n : ℕ). capped (n + r)) e ∙ capped-more (size + line_size piece) r ∙ ap capped (add_assoc size (line_size piece) r ∙ ap (λ (n : ℕ). size + n) (sym l)) ∙ s
 
 -- the end of the walk
@@ -156,11 +149,9 @@ pub size_broken : (p : List ℕ) → packs p ≡ false → Err Request ≡ size_
 unfolding size_of
 size_broken p h = rw (packed_broken p h)
 
-pub size_end : (p : List ℕ) (at size : ℕ) → length p ≤ at → size ≤ limit + 1 → packs (drop at p) ≡ packs p → capped (size + length (text_of (unpacked (drop at p)))) ≡ capped (length (text_of (unpacked p))) → Ok size ≡ size_of p
+pub size_end : (p rest : List ℕ) (size : ℕ) → length rest ≡ 0 → size ≤ limit + 1 → packs rest ≡ packs p → capped (size + length (text_of (unpacked rest))) ≡ capped (length (text_of (unpacked p))) → Ok size ≡ size_of p
 unfolding size_of packs all_packed pieces_after unpacked events_among text_of
-size_end p at size h small b s =
-    let d : drop at p ≡ [] = drop_of_length-le p h in
-    let t : true ≡ all_packed (pieces_after 0 p) = rw d at b in
-    let n : capped (size + 0) ≡ capped (length (text_of (events_among (pieces_after 0 p)))) = rw d at s in
+size_end p (x ∷ rest) size h small b s = absurd (omega arith)
+size_end p [] size h small t n =
     let z : size + 0 ≡ size = omega arith in
     rw (packed_whole p (sym t)) (ap Ok (sym (capped_once size small) ∙ ap capped (sym z) ∙ n))

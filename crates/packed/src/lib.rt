@@ -1,7 +1,7 @@
 // Packed events: how many bytes each takes, and a list of them written as a text.
 #![tactic(auto)]
 
-ghost use Rattle.std.specs.Prelude.{◌≡◌, true, ◌+◌, ◌*◌, ◌≤◌, length, get_or};
+ghost use Rattle.std.specs.Prelude.{◌≡◌, true, ◌+◌, ◌*◌, ◌<◌, ◌≤◌, length, get_or, unwrap_or, IfSome};
 ghost use Rattle.laws.specs.Bytes.{put};
 ghost use Rattle.refusal.specs.Delivery.{delivery};
 ghost use Rattle.line.specs.Event.{line_of};
@@ -16,49 +16,46 @@ use request::Setup;
 // The bytes of a packed request without data.
 pub const HEAD: usize = 9;
 
-// How many bytes the packed request at the front of `rest` takes, or 0 where the list ends inside it.
-fn request_piece(rest: &[u8]) -> usize
+// How many bytes the packed request at the front of `rest` takes, if it is whole.
+fn request_piece(rest: &[u8]) -> Option<usize>
     requires { get_or rest.now 0 0 ≡ 1 }
-    ensures { result ≡ piece_length rest.now }
+    ensures length { unwrap_or result 0 ≡ piece_length rest.now }
+    ensures some { IfSome result (λ n. (0 < n) × (n ≤ length rest.now)) }
 {
     if rest.len() < HEAD {
-        return 0;
+        return None;
     }
     let count = Setup::of(&rest[1..]).data_length();
     if rest.len() - HEAD < count {
-        return 0;
+        return None;
     }
-    HEAD + count
+    Some(HEAD + count)
 }
 
-// How many bytes the packed event at the front of `rest` takes, or 0 where there is none, or none that is whole.
-#[tactic(auto, using(crate::proofs::PieceLength::no_piece))]
-pub fn piece_length(rest: &[u8]) -> usize
-    ensures { (result ≡ piece_length rest.now) × (result ≤ length rest.now) }
+// How many bytes the packed event at the front of `rest` takes, if there is one, and it is whole.
+#[tactic(auto, using(crate::proofs::PieceLength::no_piece, crate::proofs::PieceLength::attach_piece, crate::proofs::PieceLength::other_piece))]
+pub fn piece_length(rest: &[u8]) -> Option<usize>
+    ensures length { unwrap_or result 0 ≡ piece_length rest.now }
+    ensures some { IfSome result (λ n. (0 < n) × (n ≤ length rest.now)) }
 {
-    if rest.len() == 0 {
-        return 0;
-    }
-    let kind = rest[0];
-    match kind {
-        0 => 1,
-        1 => request_piece(rest),
-        _ => 0,
+    match rest {
+        [0, ..] => Some(1),
+        [1, ..] => request_piece(rest),
+        _ => None,
     }
 }
 
 // How long the line of an event of `piece` bytes is.
+#[tactic(auto, unfolding(crate::specs::Ways::line_size))]
 fn line_size(piece: usize) -> usize
     requires { piece ≤ limit }
     ensures { (result ≡ line_size piece) × (result ≤ limit * 2 + 2) }
 {
-    if piece < HEAD {
-        return 2;
-    }
-    piece * 2 + 2
+    if piece < HEAD { 2 } else { piece * 2 + 2 }
 }
 
 // A text's length with one more line, that of an event of `piece` bytes; it stops just over the limit.
+#[tactic(auto, using(crate::proofs::SpellSize::capped_piece), unfolding(crate::specs::Ways::capped))]
 fn longer(size: usize, piece: usize) -> usize
     requires { size ≤ limit + 1 }
     ensures { (result ≡ capped (size + line_size piece)) × (result ≤ limit + 1) }
@@ -66,27 +63,21 @@ fn longer(size: usize, piece: usize) -> usize
     if text::LIMIT < piece {
         return text::LIMIT + 1;
     }
-    let total = size + line_size(piece);
-    if text::LIMIT < total {
-        text::LIMIT + 1
-    } else {
-        total
-    }
+    (size + line_size(piece)).min(text::LIMIT + 1)
 }
 
 // How long the text of a packed list is, or that it is no list of whole events.
 fn spelled_size(packed: &[u8]) -> Result<usize, Refusal>
     ensures { result ≡ size_of packed.now }
 {
-    let mut at = 0;
+    let mut rest = packed;
     let mut size = 0;
-    while at < packed.len() {
-        let piece = piece_length(&packed[at..]);
-        if piece == 0 {
+    while !rest.is_empty() {
+        let Some(piece) = piece_length(rest) else {
             return Err(Refusal::Request);
-        }
+        };
         size = longer(size, piece);
-        at += piece;
+        rest = &rest[piece..];
     }
     Ok(size)
 }
@@ -109,12 +100,12 @@ fn spell(packed: &[u8], out: &mut [u8])
     requires { (packs packed.now ≡ true) × (length (text_of (unpacked packed.now)) ≤ length out.old) }
     ensures { out.new ≡ put 0 (text_of (unpacked packed.now)) out.old }
 {
-    let mut from = 0;
+    let mut rest = packed;
     let mut to = 0;
-    while from < packed.len() {
-        let end = from + piece_length(&packed[from..]);
-        to += write_piece(&packed[from..end], out, to);
-        from = end;
+    while let Some(count) = piece_length(rest) {
+        let (piece, behind) = rest.split_at(count);
+        to += write_piece(piece, out, to);
+        rest = behind;
     }
 }
 

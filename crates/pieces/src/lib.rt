@@ -3,20 +3,13 @@
 
 ghost use Rattle.std.specs.Prelude.{◌≡◌, ◌*◌, ◌≤◌, length};
 ghost use Rattle.board.specs.Layout.{flash_bytes};
-ghost use Rattle.pieces.specs.Image.{larger};
 ghost use Rattle.pieces.specs.Ways.{Placing};
 
 use board::Board;
 use refusal::Refusal;
 
-// The larger of two.
-fn larger(a: usize, b: usize) -> usize
-    ensures { result ≡ larger a b }
-{
-    if a < b { b } else { a }
-}
-
 // Lays bytes from an address on, and gives where the image ends then; or refuses, and lays none.
+#[tactic(auto, using(board::proofs::Addresses::flash_ends))]
 pub fn place(
     board: Board,
     address: u64,
@@ -28,7 +21,7 @@ pub fn place(
     requires { (flash_bytes board ≤ length given.old * 8) × (length image.old ≡ flash_bytes board) }
     ensures { Placing board address bytes.now end given.old image.old given.new image.new result }
 {
-    if bytes.len() == 0 {
+    if bytes.is_empty() {
         return Ok(end);
     }
     if !board.in_flash(address, bytes.len() as u64) {
@@ -40,5 +33,5 @@ pub fn place(
         return Err(Refusal::Twice);
     }
     buffer::put(image, from, bytes);
-    Ok(larger(end, to))
+    Ok(end.max(to))
 }

@@ -31,9 +31,7 @@ fn word(verdict: Verdict) -> [u8; WORD]
 {
     match verdict {
         Verdict::Pass => *b"ACCEPT\t",
-        Verdict::Event(_) => *b"REJECT\t",
-        Verdict::End(_) => *b"REJECT\t",
-        Verdict::Flash(_) => *b"REJECT\t",
+        Verdict::Event(_) | Verdict::End(_) | Verdict::Flash(_) => *b"REJECT\t",
         Verdict::Refused(_) => *b"REFUSE\t",
     }
 }
@@ -46,7 +44,7 @@ fn kind(verdict: Verdict) -> usize
         Verdict::Event(_) => 1,
         Verdict::End(_) => 2,
         Verdict::Flash(_) => 3,
-        Verdict::Refused(why) => why.number() as usize,
+        Verdict::Refused(why) => usize::from(why.number()),
     }
 }
 
@@ -56,7 +54,7 @@ fn number(verdict: Verdict) -> usize
     match verdict {
         Verdict::Pass => 0,
         Verdict::Event(event) => event,
-        Verdict::End(condition) => condition as usize,
+        Verdict::End(condition) => usize::from(condition),
         Verdict::Flash(offset) => offset,
         Verdict::Refused(why) => why.line(),
     }

@@ -1,5 +1,0 @@
--- `verdict::number` meets its contract. Assumes nothing.
-use Rattle.verdict.proofs.number.Goals as goal
-
-pub returns-in-Refused : goal.returns-in-Refused
-returns-in-Refused c = rw c.in-Refused.is c.line.ensures
