@@ -8,8 +8,9 @@ use lib.Dec.{leb}
 use lib.ListN.{length, take, drop, get_or, take-append-drop}
 use lib.Seq.{length-take-le, take_all}
 use borrow.Author.Tests.{ne_eqb}
+use Rattle.std.specs.Prelude.{Option, Some, None, IfSome, unwrap_or}
 use Rattle.laws.proofs.Bytes.{rest_is}
-use Rattle.laws.proofs.Split.{by_bool, by_lt, and_right_false, and_right_true}
+use Rattle.laws.proofs.Split.{and_right_false, and_right_true}
 use Rattle.request.specs.Setup.{setup_of, data_length, fits_of}
 use Rattle.laws.specs.Lists.{same}
 use Rattle.line.specs.Event.{fits}
@@ -26,17 +27,10 @@ pub piece_bad : (u : List ℕ) → well_packed (first_piece u) ≡ false → 0 �
 unfolding piece_length
 piece_bad u h = rw h
 
-first-within : (u : List ℕ) → length (first_piece u) ≤ length u
-unfolding first_piece
-first-within u = by_lt (length u) (piece_size u) (λ h. rw (take_all (piece_size u) u (let k : length u ≤ piece_size u = omega arith in k)) (omega arith)) (λ h. rw (length-take-le (piece_size u) u h) h)
-
-pub piece_and_bound : (u : List ℕ) (n : ℕ) → n ≡ piece_length u → (n ≡ piece_length u) × (n ≤ length u)
-piece_and_bound u n e = (
-  e,
-  by_bool (well_packed (first_piece u))
-      (λ h. let l : piece_length u ≡ length (first_piece u) = piece_good u h in let w = first-within u in omega arith)
-      (λ h. let l : 0 ≡ piece_length u = piece_bad u h in omega arith),
-)
+-- the piece lies in the list, also where it is none
+pub piece_within : (most : ℕ) (r : Option ℕ) → IfSome r (λ n. (0 < n) × (n ≤ most)) → unwrap_or r 0 ≤ most
+piece_within most (Some n) h = h.1
+piece_within most None h = omega arith
 
 -- a kind byte other than 1 is a piece of its own
 first_other : (x : ℕ) (t : List ℕ) → (x ≡ 1 → ⊥) → first_piece (x ∷ t) ≡ x ∷ []

@@ -104,22 +104,20 @@ pub(crate) fn play(rt: &impl System, packed: &[u8], board: &[u8]) {
     buffer::put(&mut memory, 0, board);
     let mut device = Device::start(Board::LOGGER);
     let mut number = 0;
-    let mut at = 0;
-    let mut size = packed::piece_length(packed);
-    while 0 < size {
-        let end = at + size;
+    let mut rest = packed;
+    while let Some(size) = packed::piece_length(rest) {
+        let (event, behind) = rest.split_at(size);
         number += 1;
         device = turn(
             rt,
             device,
             number,
-            &packed[at..end],
+            event,
             &mut memory,
             &mut block,
             &mut reply,
         );
-        at = end;
-        size = packed::piece_length(&packed[at..]);
+        rest = behind;
     }
     conclude(rt, number, device, board, &memory);
 }

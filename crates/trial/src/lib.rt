@@ -128,7 +128,7 @@ fn turn(
     ensures { (life result memory.new block.new reply.new ≡ turn_of packed.now place line (life scene memory.old block.old reply.old)) × (result.at ≤ length packed.now) }
 {
     let at = scene.at;
-    let end = at + packed::piece_length(&packed[at..]);
+    let end = at + packed::piece_length(&packed[at..]).unwrap_or(0);
     let stepped = player::step(scene.device, &packed[at..end], memory, block, reply);
     let byte = buffer::byte_at(memory, place);
     next(scene, line, end, stepped.device, byte)
