@@ -7,6 +7,3 @@ use Rattle.bits.proofs.mark_bytes.Given as goal
 
 abbrev pub invariant-loop-i : goal.invariant-loop-i
 invariant-loop-i l = Takes (l.from * 8) (l.i * 8 - l.from * 8) l.initial.bits l.bits l.clear × (length l.bits ≡ length l.initial.bits) × (l.from ≤ l.i) × (l.i ≤ l.to)
-
-abbrev pub decreases-loop-i : goal.decreases-loop-i
-decreases-loop-i l = l.to - l.i
