@@ -61,6 +61,7 @@ fn mark_any(bits: &mut [u8], from: usize, to: usize) -> bool
 {
     let mut clear = true;
     let mut i = from;
+    // Whole bytes at a time are quicker than a bit at a time, and no range takes such steps.
     while i < to {
         let count = stride(i, to);
         let byte = bits[i / 8];
@@ -79,7 +80,8 @@ pub fn mark(bits: &mut [u8], from: usize, to: usize) -> bool
     ensures { Takes from (to - from) bits.old bits.new result }
 {
     if from % 8 == 0 && to % 8 == 0 {
-        return mark_bytes(bits, from / 8, to / 8);
+        mark_bytes(bits, from / 8, to / 8)
+    } else {
+        mark_any(bits, from, to)
     }
-    mark_any(bits, from, to)
 }

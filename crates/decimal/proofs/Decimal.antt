@@ -2,8 +2,8 @@
 use mathlib.Core.Path.{◌≡◌, refl, ap, ◌∙◌, sym}
 use mathlib.Core.Bool.{cond}
 use mathlib.Core.List.{List, [], ◌∷◌, ◌++◌, append_assoc, append-nil}
-use Prim.Native.Nat.{ℕ, zero, suc, ◌+◌, ◌-◌, ◌*◌, ◌/◌, ◌%◌, ◌^◌, ◌≤◌, ◌<◌}
-use native.Mathlib.Nat.{pow-suc, le_refl}
+use Prim.Native.Nat.{ℕ, zero, suc, ◌+◌, ◌-◌, ◌*◌, ◌/◌, ◌%◌, ◌^◌, ◌≤◌, ◌<◌, max}
+use native.Mathlib.Nat.{pow-suc, le_refl, one-le-pow, zero-lt-suc}
 use native.Mathlib.Omega.{arith}
 use lib.Dec.{ltb}
 use lib.ListN.{length, length-append}
@@ -56,6 +56,21 @@ digits_one n h = ap length (one_digit n h)
 pub digits_more : (n : ℕ) → 10 ≤ n → length (decimal_of n) ≡ length (decimal_of (n / 10)) + 1
 digits_more n h = ap length (last_digit n h) ∙ length-append (decimal_of (n / 10)) ((48 + n % 10) ∷ [])
 
+-- so one digit is a number below 10, and more are not
+digits_some : (n : ℕ) → 1 ≤ length (decimal_of n)
+digits_some n = by_lt n 10 (λ s. let e = digits_one n s in omega arith) (λ s. let e = digits_more n s in omega arith)
+
+pub more_by_digits : (n : ℕ) → 1 < length (decimal_of n) → 10 ≤ n
+more_by_digits n h = by_lt n 10 (λ s. let e = digits_one n s in absurd (omega arith)) (λ s. s)
+
+pub few_by_digits : (n : ℕ) → length (decimal_of n) ≤ 1 → n < 10
+few_by_digits n h =
+    by_lt n 10 (λ s. s)
+    (λ s.
+    let e = digits_more n s in
+    let f = digits_some (n / 10) in
+    absurd (omega arith))
+
 -- a number below 10 ^ (k + 1) has at most k + 1 digits
 pub digits_at_most : (k n : ℕ) → n < 10 ^ suc k → length (decimal_of n) ≤ suc k
 digits_at_most zero n h = let e = digits_one n h in omega arith
@@ -68,6 +83,27 @@ digits_at_most (suc k) n h =
     let b = digits_at_most k (n / 10) a in
     let e = digits_more n s in
     omega arith)
+
+-- a number from 10 ^ k on, and below 10 ^ (k + 1), has k + 1 digits
+digits_log : (k n : ℕ) → 10 ^ k ≤ n → n < 10 * 10 ^ k → length (decimal_of n) ≡ k + 1
+digits_log zero n l u = digits_one n (omega arith)
+digits_log (suc k) n l u =
+    let p : 10 ^ suc k ≡ 10 ^ k * 10 = pow-suc 10 k in
+    let o : 1 ≤ 10 ^ k = one-le-pow k 10 (zero-lt-suc 9) in
+    let e = digits_more n (omega arith) in
+    let d = digits_log k (n / 10) (omega arith) (omega arith) in
+    omega arith
+
+-- and zero has one
+pub digits_told : (k n : ℕ) → 10 ^ k ≤ max n 1 → max n 1 < 10 * 10 ^ k → length (decimal_of n) ≡ k + 1
+digits_told k n l u =
+    by_lt n 1
+    (λ h.
+    let e = digits_one n (omega arith) in
+    let f = digits_one 1 (omega arith) in
+    let g = digits_log k 1 (omega arith) (omega arith) in
+    omega arith)
+    (λ h. digits_log k n (omega arith) (omega arith))
 
 -- digits read as a decimal number, behind the number a
 unfoldable pub read_on : ℕ → List ℕ → ℕ
