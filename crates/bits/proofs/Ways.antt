@@ -10,27 +10,19 @@ use lib.Dec.{eqb, leb}
 use lib.ListN.{length, get_or, set, length-set}
 use lib.Pow.{pow-lt}
 use lib.Seq.{get_or-set_same, get_or-set_other}
-use borrow.Author.Tests.{eqb-true, eq-eqb, ne_eqb, le-leb, lt-leb}
+use borrow.Author.Tests.{eqb-true, eq-eqb, ne_eqb, le-leb}
 use Rattle.laws.proofs.Lists.{byte_at, bytes_all}
-use Rattle.laws.proofs.Split.{by_bool, by_eq, by_lt, and_true, and_right_false}
+use Rattle.laws.proofs.Split.{by_bool, by_eq, by_lt, and_true}
 use Rattle.bits.specs.Bits.{bit_at, any_from, some_set, within, Marked, Takes}
 use Rattle.bits.specs.Ways.{stride_of, hit_of, marked_of}
 use Rattle.bits.proofs.Byte.{bit_of, bit_none, bit_or_lem, bit_power, bit_full, bits-same}
 use Rattle.bits.proofs.Bits.{bit_at_lem, any_nowhere, any_split, some-set-none, some_set_by, within_in, within-before, within_behind, unmarked, marked_none, marked_join}
 
--- a whole byte, or one bit: not at a byte's first, or too few are left
+-- a whole byte
 module _ (i to : ℕ) where
   pub stride_whole : i % 8 ≡ 0 → 8 ≤ to - i → stride_of i to ≡ 8
   unfolding stride_of
   stride_whole m h = rw (m, le-leb 8 (to - i) h)
-
-  pub stride_off : (i % 8 ≡ 0 → ⊥) → stride_of i to ≡ 1
-  unfolding stride_of
-  stride_off n = rw (ne_eqb (i % 8) 0 n)
-
-  pub stride_short : to - i < 8 → stride_of i to ≡ 1
-  unfolding stride_of
-  stride_short h = rw (lt-leb 8 (to - i) h, and_right_false (eqb (i % 8) 0))
 
 by_stride : {C : Type 0} (i to : ℕ) → (stride_of i to ≡ 8 → i % 8 ≡ 0 → C) → (stride_of i to ≡ 1 → C) → C
 unfolding stride_of

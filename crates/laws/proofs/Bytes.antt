@@ -31,24 +31,6 @@ sets_turn m xs at j h = rw (drop-cons xs j 0 h, ← add_assoc at j 1, add-one (a
 pub sets_end : (m xs : List ℕ) (i j : ℕ) → length xs ≤ j → sets m i (drop j xs) ≡ m
 sets_end m xs i j h = rw (drop_of_length-le xs h)
 
--- a turn of a loop that fills up to place `to`
-pub fill_turn : (m : List ℕ) (i to v : ℕ) → i < to → sets m i (replicate (to - i) v) ≡ sets (set m i v) (i + 1) (replicate (to - (i + 1)) v)
-fill_turn m i to v h =
-    let k : to - i ≡ suc (to - (i + 1)) = omega arith in
-    rw (k, add-one i)
-
-pub fill_end : (m : List ℕ) (i to v : ℕ) → to ≤ i → sets m i (replicate (to - i) v) ≡ m
-fill_end m i to v h =
-    let k : to - i ≡ 0 = omega arith in
-    rw k
-
-pub sets-filled : (m : List ℕ) (from to v : ℕ) → from ≤ to → to ≤ length m → sets m from (replicate (to - from) v) ≡ filled from (to - from) v m
-unfolding filled
-sets-filled m from to v h k =
-    let e : length (replicate (to - from) v) ≡ to - from = length-replicate {A = ℕ} (to - from) v in
-    let room : from + length (replicate (to - from) v) ≤ length m = omega arith in
-    sets-put (replicate (to - from) v) m from room
-
 -- laid behind ys
 pub put_seam : (ys xs zs : List ℕ) → put (length ys) xs (ys ++ zs) ≡ ys ++ xs ++ drop (length xs) zs
 unfolding put
@@ -59,12 +41,6 @@ pub rest_is : (k : ℕ) (l : List ℕ) → take (length l - k) (drop k l) ≡ dr
 rest_is k l =
     let h : length (drop k l) ≤ length l - k = rw length-drop (le_refl _) in
     take_all (length l - k) (drop k l) h
-
--- a part that is given by its two ends
-pub filled-span : (from count v : ℕ) (m : List ℕ) → filled from (from + count - from) v m ≡ filled from count v m
-filled-span from count v m =
-    let e : from + count - from ≡ count = omega arith in
-    rw e
 
 -- the front of a list is no longer than asked for
 pub take_at_most : (n : ℕ) (l : List ℕ) → length (take n l) ≤ n
