@@ -1,5 +1,6 @@
 -- The record of the first line of a text, read into a buffer. Assumes nothing.
-use Rattle.std.proofs.Common.{◌≡◌, ℕ, ◌+◌, ◌-◌, ◌*◌, ◌/◌, ◌<◌, true, false, List, length, get_or, take, drop, sym, ap, ◌∙◌, ⊎_elim, arith}
+use Rattle.std.proofs.Common.{◌≡◌, ℕ, ◌+◌, ◌-◌, ◌*◌, ◌/◌, ◌<◌, ◌≤◌, Bool, true, false, unwrap_or, List, length, get_or, take, drop, sym, ap, ◌∙◌, ⊎_elim, arith}
+use Rattle.std.specs.Bool.{then_some}
 use Rattle.laws.specs.Bytes.{put}
 use Rattle.laws.proofs.Append.{take_put}
 use Rattle.laws.proofs.Split.{by_bool}
@@ -81,15 +82,20 @@ module _ {u : List ℕ} (q : Spells u) where
       unfolding record_laid
       record_laid_lem = rw (spells_spelled q) as_record
 
-      pub record_front : take (n - 0) (drop 0 after) ≡ record_in (first_line u)
+      pub record_front : take n after ≡ record_in (first_line u)
       record_front =
-          let e : n - 0 ≡ length (record_in (first_line u)) = let l = record_length in omega arith in
+          let e : n ≡ length (record_in (first_line u)) = let l = record_length in omega arith in
           ap (λ (k : ℕ). take k after) e ∙ ap (take (length (record_in (first_line u)))) as_record ∙ take_put (record_in (first_line u)) out
 
-  pub read_good : (m : ℕ) → m ≡ spelled_length u → sound (record_in (first_line u)) ≡ true → m ≡ record_line_length u
-  unfolding record_line_length good_record
-  read_good m e s = e ∙ length_good u (spells_spelled q) ∙ rw (spells_spelled q, s)
+  pub length_within : (n : ℕ) → n ≡ spelled_length u → (0 < n) × (n ≤ length u)
+  length_within n e =
+      let l = length_good u (spells_spelled q) in
+      let s = spells_length q in
+      let z = spells_size q in
+      (omega arith, omega arith)
 
-  pub read_bad : sound (record_in (first_line u)) ≡ false → 0 ≡ record_line_length u
+  -- whether the record is sound tells whether it is read
+  pub read_told : (b : Bool) (m : ℕ) → m ≡ spelled_length u → b ≡ sound (record_in (first_line u)) → unwrap_or (then_some b m) 0 ≡ record_line_length u
   unfolding record_line_length good_record
-  read_bad s = rw (spells_spelled q, s)
+  read_told true m e s = e ∙ length_good u (spells_spelled q) ∙ rw (spells_spelled q, ← s)
+  read_told false m e s = rw (spells_spelled q, ← s)

@@ -1,23 +1,17 @@
--- A turn of the loop that adds up a record's bytes, and when a record is sound. Assumes nothing.
-use Rattle.std.proofs.Common.{◌≡◌, ℕ, ◌+◌, ◌*◌, ◌%◌, ◌<◌, ◌≤◌, true, false, eqb, List, length, get_or, drop, add-one, arith, drop_of_length-le, drop-cons, ne_eqb, eqb-true}
+-- A record's bytes added up, and when a record is sound. Assumes nothing.
+use Rattle.std.proofs.Common.{◌≡◌, ℕ, ◌+◌, ◌*◌, ◌%◌, ◌<◌, true, false, eqb, List, [], ◌∷◌, get_or, fold, ◌∙◌, arith, ne_eqb, eqb-true}
 use Rattle.laws.proofs.Split.{by_bool, and_true, and_right_false}
 use Rattle.record.specs.Record.{length_of, offset_of, type_of, suits, sum_of, sound}
 
--- the sum of what is left, one byte further
-sum_drop : (xs : List ℕ) (i : ℕ) → i < length xs → sum_of (drop i xs) ≡ get_or xs i 0 + sum_of (drop (i + 1) xs)
+-- a sum that is kept modulo 256 on the way
+pub sum_fold : (s : ℕ) (xs : List ℕ) → s < 256 → fold (λ a x. (a + x) % 256) s xs ≡ (s + sum_of xs) % 256
 unfolding sum_of
-sum_drop xs i h = rw (drop-cons xs i 0 h, add-one i)
-
-pub sum_turn : (xs : List ℕ) (i s t : ℕ) → i < length xs → t ≡ (s + get_or xs i 0) % 256 → (t + sum_of (drop (i + 1) xs)) % 256 ≡ (s + sum_of (drop i xs)) % 256
-sum_turn xs i s t h e =
-    let d = sum_drop xs i h in
-    omega arith
-
-pub sum_end : (xs : List ℕ) (i s : ℕ) → length xs ≤ i → s < 256 → (s + sum_of (drop i xs)) % 256 ≡ s
-unfolding sum_of
-sum_end xs i s h k =
-    let d : sum_of (drop i xs) ≡ 0 = rw (drop_of_length-le xs h) in
-    omega arith
+sum_fold s [] h = omega arith
+sum_fold s (x ∷ xs) h =
+    let r = (s + x) % 256 in
+    let k : r < 256 = omega arith in
+    let e : (r + sum_of xs) % 256 ≡ (s + (x + sum_of xs)) % 256 = omega arith in
+    sum_fold r xs k ∙ e
 
 -- only data have an offset
 pub suits_at_0 : (type bytes offset : ℕ) → (type ≡ 0 → ⊥) → (offset ≡ 0 → ⊥) → suits type bytes offset ≡ false

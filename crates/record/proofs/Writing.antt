@@ -1,5 +1,5 @@
 -- Writing a record's line, step by step. Assumes nothing.
-use Rattle.std.proofs.Common.{◌≡◌, ℕ, suc, ◌+◌, ◌-◌, ◌*◌, ◌/◌, ◌%◌, ◌<◌, ◌≤◌, List, [], ◌∷◌, ◌++◌, length, take, drop, set, sym, ap, ◌∙◌, ap₂, add-one, arith, length-append, length-set, take-suc-set}
+use Rattle.std.proofs.Common.{◌≡◌, ℕ, suc, ◌+◌, ◌-◌, ◌*◌, ◌/◌, ◌%◌, ◌<◌, ◌≤◌, List, [], ◌∷◌, ◌++◌, length, take, set, sym, ap, ◌∙◌, ap₂, add-one, arith, length-append, length-set, take-suc-set}
 use lib.Seq.{sets}
 use Rattle.laws.specs.Bytes.{put}
 use Rattle.laws.proofs.Bytes.{sets-put, put-length}
@@ -48,37 +48,36 @@ module _ (head xs z o₁ o₂ : List ℕ) (four : length head ≡ 4) (room : 5 +
       let r : 0 + length (head ++ xs) ≤ length z = omega arith in
       ap length joined ∙ put-length 0 (head ++ xs) z r
 
-  pub joined_front : (n : ℕ) → n ≡ 4 + length xs → take (n - 0) (drop 0 o₂) ≡ head ++ xs
+  pub joined_front : (n : ℕ) → n ≡ 4 + length xs → take n o₂ ≡ head ++ xs
   joined_front n is =
       let l : length (head ++ xs) ≡ length head + length xs = length-append head xs in
-      let e : n - 0 ≡ length (head ++ xs) = omega arith in
+      let e : n ≡ length (head ++ xs) = omega arith in
       ap (λ (k : ℕ). take k o₂) e ∙ ap (take (length (head ++ xs))) joined ∙ take_put (head ++ xs) z
 
-  pub record_made : (n s c : ℕ) → n ≡ 4 + length xs → s ≡ sum_of (take (n - 0) (drop 0 o₂)) % 256 → c ≡ (256 - s) % 256 → take (n + 1 - 0) (drop 0 (set o₂ n c)) ≡ summed (head ++ xs)
+  pub record_made : (n s c : ℕ) → n ≡ 4 + length xs → s ≡ sum_of (take n o₂) % 256 → c ≡ (256 - s) % 256 → take (n + 1) (set o₂ n c) ≡ summed (head ++ xs)
   unfolding summed
   record_made n s c is e f =
       let g : c ≡ (256 - sum_of (head ++ xs) % 256) % 256 = f ∙ ap (λ (k : ℕ). (256 - k) % 256) (e ∙ ap (λ (l : List ℕ). sum_of l % 256) (joined_front n is)) in
       let l = joined_length in
       let inside : n < length o₂ = omega arith in
-      let next : n + 1 - 0 ≡ suc n = omega arith in
-      let z₀ : n - 0 ≡ n = omega arith in
+      let next : n + 1 ≡ suc n = omega arith in
       ap (λ (k : ℕ). take k (set o₂ n c)) next
       ∙ take-suc-set o₂ n c inside
-      ∙ ap₂ (λ (h : List ℕ) (x : ℕ). h ++ (x ∷ [])) (ap (λ (k : ℕ). take k o₂) (sym z₀) ∙ joined_front n is) g
+      ∙ ap₂ (λ (h : List ℕ) (x : ℕ). h ++ (x ∷ [])) (joined_front n is) g
 
   -- with the head of a record, the line of all that is the record's
-  module _ (type offset n s c : ℕ) (is : n ≡ 4 + length xs) (heads : head ≡ length xs ∷ offset / 256 ∷ offset % 256 ∷ type ∷ []) (e : s ≡ sum_of (take (n - 0) (drop 0 o₂)) % 256) (f : c ≡ (256 - s) % 256) where
-    made : take (n + 1 - 0) (drop 0 (set o₂ n c)) ≡ record_of type offset xs
+  module _ (type offset n s c : ℕ) (is : n ≡ 4 + length xs) (heads : head ≡ length xs ∷ offset / 256 ∷ offset % 256 ∷ type ∷ []) (e : s ≡ sum_of (take n o₂) % 256) (f : c ≡ (256 - s) % 256) where
+    made : take (n + 1) (set o₂ n c) ≡ record_of type offset xs
     unfolding record_of
     made = record_made n s c is e f ∙ ap (λ (h : List ℕ). summed (h ++ xs)) heads
 
-    pub write-room : (at : ℕ) (out : List ℕ) → at + length (record_line (record_of type offset xs)) ≤ length out → at + (2 + length (take (n + 1 - 0) (drop 0 (set o₂ n c))) * 2) ≤ length out
+    pub write-room : (at : ℕ) (out : List ℕ) → at + length (record_line (record_of type offset xs)) ≤ length out → at + (2 + length (take (n + 1) (set o₂ n c)) * 2) ≤ length out
     write-room at out h =
         let l = ap length made in
         let k = line_length_of (record_of type offset xs) in
         omega arith
 
-    pub written : (at : ℕ) (out after : List ℕ) → after ≡ put at (record_line (take (n + 1 - 0) (drop 0 (set o₂ n c)))) out → (after ≡ put at (record_line (record_of type offset xs)) out) × (n * 2 + 4 ≡ length (record_line (record_of type offset xs)))
+    pub written : (at : ℕ) (out after : List ℕ) → after ≡ put at (record_line (take (n + 1) (set o₂ n c))) out → (after ≡ put at (record_line (record_of type offset xs)) out) × (n * 2 + 4 ≡ length (record_line (record_of type offset xs)))
     written at out after w =
         let k = line_length_of (record_of type offset xs) in
         let l = record_length_of type offset xs in

@@ -2,7 +2,7 @@
 // written.
 #![tactic(auto)]
 
-ghost use Rattle.std.specs.Prelude.{◌≡◌, ◌+◌, ◌-◌, ◌*◌, ◌%◌, ◌<◌, ◌≤◌, length};
+ghost use Rattle.std.specs.Prelude.{◌≡◌, ◌+◌, ◌-◌, ◌*◌, ◌%◌, ◌<◌, ◌≤◌, length, unwrap_or, IfSome};
 ghost use Rattle.laws.specs.Bytes.{put};
 ghost use Rattle.record.specs.Record.{suits, sum_of, sound, record_of, record_line};
 ghost use Rattle.record.specs.Ways.{line_end, spelled_length, record_line_length, record_laid};
@@ -36,44 +36,39 @@ pub const LINE: usize = 2 + FRAME * 2;
 // Where the digits of a record without data end, in its line.
 pub const SHORTEST: usize = 1 + FRAME * 2;
 
-// Where the line ends whose digits end at place `end`; 0 where neither LF nor CR LF stands there.
+// Where the line ends whose digits end at place `end`, if LF or CR LF stands there.
 #[tactic(auto, unfolding(crate::specs::Ways::line_end))]
-fn line_end(rest: &[u8], end: usize) -> usize
+fn line_end(rest: &[u8], end: usize) -> Option<usize>
     requires { end < length rest.now }
-    ensures { result ≡ line_end rest.now end }
+    ensures length { unwrap_or result 0 ≡ line_end rest.now end }
+    ensures some { IfSome result (λ n. 0 < n) }
 {
-    let byte = rest[end];
-    if byte == b'\n' {
-        return end + 1;
-    }
-    if byte != b'\r' {
-        return 0;
-    }
-    if buffer::byte_at(rest, end + 1) == b'\n' {
-        end + 2
-    } else {
-        0
+    match rest[end] {
+        b'\n' => Some(end + 1),
+        b'\r' if buffer::byte_at(rest, end + 1) == b'\n' => Some(end + 2),
+        _ => None,
     }
 }
 
-// How long the line at the front of `rest` is, or 0 where it spells no record.
+// How long the line at the front of `rest` is, if it spells a record.
 #[tactic(auto, using(crate::proofs::Spelling::no_mark))]
-fn spelled_length(rest: &[u8]) -> usize
-    ensures { result ≡ spelled_length rest.now }
+fn spelled_length(rest: &[u8]) -> Option<usize>
+    ensures length { unwrap_or result 0 ≡ spelled_length rest.now }
+    ensures some { IfSome result (λ n. 0 < n) }
 {
     if rest.len() <= SHORTEST {
-        return 0;
+        return None;
     }
     if rest[0] != b':' {
-        return 0;
+        return None;
     }
     // whether these are digits is seen with all others, once it is known where they end
     let end = SHORTEST + digit::told(rest[1], rest[2]) * 2;
     if rest.len() <= end {
-        return 0;
+        return None;
     }
     if !hexfield::digits(&rest[1..end]) {
-        return 0;
+        return None;
     }
     line_end(rest, end)
 }
@@ -82,20 +77,14 @@ fn spelled_length(rest: &[u8]) -> usize
 fn sum(bytes: &[u8]) -> u8
     ensures { result ≡ sum_of bytes.now % 256 }
 {
-    let mut sum = 0;
-    let mut i = 0;
-    while i < bytes.len() {
-        sum = std::num::wrapping_add_u8(sum, bytes[i]);
-        i += 1;
-    }
-    sum
+    bytes.iter().fold(0u8, |sum, byte| sum.wrapping_add(*byte))
 }
 
 // Two bytes as a number, the high one first.
 pub fn word(high: u8, low: u8) -> u16
     ensures { result ≡ high * 256 + low }
 {
-    high as u16 * 256 + low as u16
+    u16::from_be_bytes([high, low])
 }
 
 // Is there no more than the type asks for? Length and offset are all that it says. Data come first: nearly all records
@@ -123,33 +112,29 @@ fn sound(bytes: &[u8]) -> bool
     requires { 4 ≤ length bytes.now }
     ensures { result ≡ sound bytes.now }
 {
-    if suits(bytes[3], bytes[0], word(bytes[1], bytes[2])) {
-        return sum(bytes) == 0;
-    }
-    false
+    suits(bytes[3], bytes[0], word(bytes[1], bytes[2])) && sum(bytes) == 0
 }
 
-// The record at the front of `rest` goes to the front of `out`, if the line spells one. Gives the line's length, or 0
-// for a bad record.
-pub fn read(rest: &[u8], out: &mut [u8]) -> usize
+// The record at the front of `rest` goes to the front of `out`, if the line spells one. Gives the line's length, or
+// None for a bad record.
+pub fn read(rest: &[u8], out: &mut [u8]) -> Option<usize>
     requires { 260 ≤ length out.old }
-    ensures { (result ≡ record_line_length rest.now) × (out.new ≡ record_laid rest.now out.old) }
+    ensures length { unwrap_or result 0 ≡ record_line_length rest.now }
+    ensures some { IfSome result (λ n. (0 < n) × (n ≤ length rest.now)) }
+    ensures laid { out.new ≡ record_laid rest.now out.old }
 {
-    let length = spelled_length(rest);
-    if length == 0 {
-        return 0;
-    }
+    let length = spelled_length(rest)?;
     // beside the digits there are two bytes, the mark and LF, or three with CR
     let count = (length - 2) / 2;
     hexfield::decode(&rest[1..1 + count * 2], out, 0);
-    if sound(&out[0..count]) { length } else { 0 }
+    sound(&out[..count]).then_some(length)
 }
 
 // The byte that makes a sum 0, modulo 256.
 fn complement(sum: u8) -> u8
     ensures { result ≡ (256 - sum) % 256 }
 {
-    ((256 - sum as u16) % 256) as u8
+    sum.wrapping_neg()
 }
 
 // Writes the line of a record into `out` from place `at` on.
@@ -168,17 +153,13 @@ pub fn write(kind: u8, offset: u16, data: &[u8], out: &mut [u8], at: usize) -> u
     requires { (length «data».now < 256) × (at + length (record_line (record_of kind offset «data».now)) ≤ length out.old) }
     ensures { (out.new ≡ put at (record_line (record_of kind offset «data».now)) out.old) × (result ≡ length (record_line (record_of kind offset «data».now))) }
 {
-    let head = [
-        data.len() as u8,
-        (offset / 256) as u8,
-        (offset % 256) as u8,
-        kind,
-    ];
+    let [high, low] = offset.to_be_bytes();
+    let head = [data.len() as u8, high, low, kind];
     let end = HEAD + data.len();
     let mut bytes = [0u8; ROOM];
     buffer::put(&mut bytes, 0, &head);
     buffer::put(&mut bytes, HEAD, data);
-    bytes[end] = complement(sum(&bytes[0..end]));
-    spell(&bytes[0..end + 1], out, at);
+    bytes[end] = complement(sum(&bytes[..end]));
+    spell(&bytes[..end + 1], out, at);
     end * 2 + 4
 }
