@@ -1,11 +1,13 @@
 -- The length of the first line by the tests that decide it. Assumes nothing.
-use mathlib.Core.Path.{◌≡◌, ap, ap₂, ◌∙◌, sym}
-use mathlib.Core.Bool.{true, false, true≢false}
+use mathlib.Core.Path.{◌≡◌, refl, ap, ap₂, ◌∙◌, sym}
+use Rattle.std.specs.Bool.{then_some}
+use mathlib.Core.Bool.{Bool, true, false, true≢false}
 use mathlib.Core.List.{List, [], ◌∷◌, ◌++◌}
 use Prim.Native.Nat.{ℕ, ◌+◌, ◌-◌, ◌*◌, ◌/◌, ◌≤◌, ◌<◌}
 use native.Mathlib.Omega.{arith}
 use lib.ListN.{length, take, drop, get_or, length-append, length-drop}
 use lib.Seq.{length-take-le}
+use Rattle.std.proofs.Common.{Option, Some, None, unwrap_or, IfSome}
 use Rattle.laws.proofs.Split.{by_bool, by_eq}
 use Rattle.request.specs.Setup.{setup_of, data_length}
 use Rattle.hexfield.specs.Hex.{bytes_of, all_digits}
@@ -37,14 +39,15 @@ malformed_if u s z =
     (λ h. let l : line_length u ≡ length (first_line u) = length_good u h in let w = first_some u s in absurd (omega arith))
     (λ h. h)
 
-length-within : (u : List ℕ) (n : ℕ) → n ≡ line_length u → n ≤ length u
-length-within u n e =
-    by_bool (well_spelled (first_line u))
-    (λ h. let l : line_length u ≡ length (first_line u) = length_good u h in let w = first-length u in omega arith)
-    (λ h. let l : 0 ≡ line_length u = length_bad u h in omega arith)
-
-pub length_and_bound : (u : List ℕ) (n : ℕ) → n ≡ line_length u → (n ≡ line_length u) × (n ≤ length u)
-length_and_bound u n e = (e, length-within u n e)
+-- a line is no longer than what it is in front of
+pub length_within : (u : List ℕ) (o : Option ℕ) → unwrap_or o 0 ≡ line_length u → IfSome o (λ n. 0 < n) → IfSome o (λ n. (0 < n) × (n ≤ length u))
+length_within u None e some = tt
+length_within u (Some n) e some = (
+  some,
+  by_bool (well_spelled (first_line u))
+      (λ h. let l : line_length u ≡ length (first_line u) = length_good u h in let w = first-length u in omega arith)
+      (λ h. let l : 0 ≡ line_length u = length_bad u h in omega arith),
+)
 
 -- the first line is well formed and spells Attach
 pub record Attaches (u : List ℕ) : Type 0 where
@@ -65,8 +68,8 @@ attach_formed [] k e = absurd (omega arith)
 attach_formed (x ∷ []) k e = absurd (omega arith)
 attach_formed (x ∷ y ∷ r) k e = ap₂ (λ (m : ℕ) (n : ℕ). well_spelled (first_line (m ∷ n ∷ r))) k e ∙ ap well_spelled (first-attach r) ∙ attach_line_formed
 
-pub attach-line : (u : List ℕ) → get_or u 0 0 ≡ 65 → get_or u 1 0 ≡ 10 → 2 ≡ line_length u
-attach-line u k e =
+pub attach_line : (u : List ℕ) → get_or u 0 0 ≡ 65 → get_or u 1 0 ≡ 10 → 2 ≡ line_length u
+attach_line u k e =
     let h = attach_formed u k e in
     sym (length_good u h ∙ ap length (attaches u h k).first)
 
@@ -81,6 +84,23 @@ other_kind u m n =
     by_bool (well_spelled (first_line u))
     (λ h. absurd (n (asks_facts (asks u h m)).kind))
     (length_bad u)
+
+pub too_few : (u : List ℕ) → length u < 2 → 0 ≡ line_length u
+too_few u s =
+    by_bool (well_spelled (first_line u))
+    (λ h.
+    by_eq (get_or u 0 0) 65 (λ k. let l = ap length (attaches u h k).is in absurd (omega arith))
+    (λ n. let l = asks_size (asks u h n) in absurd (omega arith)))
+    (length_bad u)
+
+-- a length that is told by a test
+pub told : (b : Bool) (n m : ℕ) → (b ≡ true → n ≡ m) → (b ≡ false → 0 ≡ m) → unwrap_or (then_some b n) 0 ≡ m
+told true n m t f = t refl
+told false n m t f = f refl
+
+pub told_some : (b : Bool) (n : ℕ) → 0 < n → IfSome (then_some b n) (λ m. 0 < m)
+told_some true n h = h
+told_some false n h = tt
 
 -- by its length a line is of `A` or of `Q`
 pub short_attaches : (u : List ℕ) → well_spelled (first_line u) ≡ true → length (first_line u) < 20 → Attaches u

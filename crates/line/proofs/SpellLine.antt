@@ -23,8 +23,8 @@ line_length_of q h =
     spelled-size (hex_of (take 8 q)) (hex_of (drop 8 q)) [] (setup_wide q h) ∙ (let e : 20 + length (hex_of (drop 8 q)) + 0 ≡ 20 + (length q - 8) * 2 = omega arith in e)
 
 -- the room that a request's line takes
-pub request-room : (q : List ℕ) (at n : ℕ) → 8 ≤ length q → at + length (line_of (request q)) ≤ n → at + 20 + (length q - 8) * 2 ≤ n
-request-room q at n h room = let e : length (line_of (request q)) ≡ 20 + (length q - 8) * 2 = line_length_of q h in omega arith
+pub request_room : (q : List ℕ) (at n : ℕ) → 8 ≤ length q → at + length (line_of (request q)) ≤ n → at + 20 + (length q - 8) * 2 ≤ n
+request_room q at n h room = let e : length (line_of (request q)) ≡ 20 + (length q - 8) * 2 = line_length_of q h in omega arith
 
 -- its six parts, one after the other
 module _ (q out o₁ o₂ : List ℕ) (at : ℕ) (eight : 8 ≤ length q) (fits : at + length (line_of (request q)) ≤ length out) (one : o₁ ≡ put (at + 2) (hex_of (take 8 q)) (set (set out at 81) (at + 1) 9)) (two : o₂ ≡ put (at + 19) (hex_of (take (length q - 8) (drop 8 q))) (set o₁ (at + 18) 9)) where
@@ -50,7 +50,7 @@ module _ (q out o₁ o₂ : List ℕ) (at : ℕ) (eight : 8 ≤ length q) (fits 
   b_length = let l : length (drop 8 q) ≡ length q - 8 = length-drop 8 q in let e : length (hex_of (drop 8 q)) ≡ length (drop 8 q) * 2 = hex_length (drop 8 q) in omega arith
 
   room : at + 20 + (length q - 8) * 2 ≤ length out
-  room = request-room q at (length out) eight fits
+  room = request_room q at (length out) eight fits
 
   first : o₁ ≡ sets start (suc (suc at)) a
   unfolding a start
