@@ -1,13 +1,18 @@
 -- The setup that a field of 16 digits spells, from its two halves. Assumes nothing.
 use mathlib.Core.Path.{◌≡◌, ap, ◌∙◌}
 use mathlib.Core.List.{List, [], ◌∷◌}
-use Prim.Native.Nat.{ℕ, ◌+◌, ◌<◌}
+use Prim.Native.Nat.{ℕ, ◌+◌, ◌/◌, ◌<◌}
 use native.Mathlib.Omega.{arith}
-use lib.ListN.{take, drop, get_or}
+use Rattle.std.specs.Simd.{first_chunks}
+use lib.ListN.{length, take, drop, get_or}
 use lib.Seq.{get_or-take, get_or-drop}
 use Rattle.request.specs.Setup.{setup_of}
 use Rattle.hexfield.specs.Hex.{bytes_of}
 use Rattle.hexfield.proofs.Fields.{bytes_of_take, bytes_of_drop}
+
+-- sixteen digits, cut into halves
+pub two_halves : (ds : List ℕ) (parts : List (List ℕ)) → parts ≡ first_chunks 8 (length ds / 8) ds → length ds ≡ 16 → parts ≡ take 8 ds ∷ take 8 (drop 8 ds) ∷ []
+two_halves ds parts e l = e ∙ ap (λ (n : ℕ). first_chunks 8 (n / 8) ds) l
 
 -- the setup whose first bytes one half of the field spells, and the others the other half
 pub setup_halves : (ds front back : List ℕ) → front ≡ bytes_of (take 8 ds) → back ≡ bytes_of (take 8 (drop 8 ds)) → setup_of (get_or front 0 0 ∷ get_or front 1 0 ∷ get_or front 2 0 ∷ get_or front 3 0 ∷ get_or back 0 0 ∷ get_or back 1 0 ∷ get_or back 2 0 ∷ get_or back 3 0 ∷ []) ≡ setup_of (bytes_of ds)

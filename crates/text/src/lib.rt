@@ -33,12 +33,10 @@ fn setup(field: &[u8]) -> Setup
     requires { (length field.now ≡ 16) × (all_digits field.now ≡ true) }
     ensures { result ≡ setup_of (bytes_of field.now) }
 {
-    let front = wide::four(&field[0..8]);
-    let back = wide::four(&field[8..16]);
-    let bytes = [
-        front[0], front[1], front[2], front[3], back[0], back[1], back[2], back[3],
-    ];
-    Setup::of(&bytes)
+    let (halves, _) = field.as_chunks::<8>();
+    let [a, b, c, d] = wide::four(&halves[0]);
+    let [e, f, g, h] = wide::four(&halves[1]);
+    Setup::of(&[a, b, c, d, e, f, g, h])
 }
 
 // What stands at a place of the text.
@@ -48,10 +46,9 @@ pub fn item_at(text: &[u8], at: usize) -> Item
     if text.len() <= at {
         return Item::End;
     }
-    let line = line::line_length(&text[at..]);
-    if line == 0 {
+    let Some(line) = line::line_length(&text[at..]) else {
         return Item::Bad;
-    }
+    };
     let next = at + line;
     if line < line::SHORTEST {
         return Item::Attach { next };
