@@ -7,7 +7,6 @@ use native.Mathlib.Nat.{min-le_right}
 use lib.ListN.{length, take, drop, length-take}
 use Rattle.std.specs.Prelude.{Result, Ok, Err}
 use Rattle.laws.specs.Bytes.{put}
-use Rattle.refusal.specs.declared.Refusal.{Refusal}
 use Rattle.refusal.specs.declared.Refusal.TheVariants.{Output}
 use Rattle.refusal.specs.Order.{first_of}
 use Rattle.refusal.specs.Delivery.{delivery}

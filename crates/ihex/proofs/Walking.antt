@@ -208,8 +208,8 @@ module _ {board : Board} {t bits image : List ℕ} {at k upper end : ℕ} {ps : 
             walk_ended board t bits image ps end k (length t - at - line) ls w we s.holds (lines_none (drop (length l) (drop at t)) ∙ ap (λ (m : ℕ). eqb m 0) left) (sym p.0 ∙ refusals) (sym p.1 ∙ faulty) (sym p.2 ∙ pieces)
 
 -- what a call of `read` at a place of the text tells, which sees the text from there on
-pub line_read : (t : List ℕ) (at : ℕ) (out after : List ℕ) (line : ℕ) → line ≡ record_line_length (take (length t - at) (drop at t)) → after ≡ record_laid (take (length t - at) (drop at t)) out → 260 ≤ length out → (line ≡ 0 → ⊥) → Reads (drop at t) out after × (line ≡ length (first_line (drop at t)))
-line_read t at out after line e laid room z = reads (drop at t) out after line (e ∙ ap record_line_length (whole-rest at t)) z (laid ∙ ap (λ (u : List ℕ). record_laid u out) (whole-rest at t)) room
+pub line_read : (t : List ℕ) (at : ℕ) (out after : List ℕ) (line : ℕ) → line ≡ record_line_length (take (length t - at) (drop at t)) → after ≡ record_laid (take (length t - at) (drop at t)) out → 260 ≤ length out → 0 < line → Reads (drop at t) out after × (line ≡ length (first_line (drop at t)))
+line_read t at out after line e laid room some = reads (drop at t) out after line (e ∙ ap record_line_length (whole-rest at t)) (λ z. omega arith) (laid ∙ ap (λ (u : List ℕ). record_laid u out) (whole-rest at t)) room
 
 pub line_bad_read : (t : List ℕ) (at line : ℕ) → at < length t → line ≡ record_line_length (take (length t - at) (drop at t)) → line ≡ 0 → good_record (first_line (drop at t)) ≡ false
 line_bad_read t at line more e z =

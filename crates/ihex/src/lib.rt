@@ -122,10 +122,9 @@ fn walk(
     let mut upper = 0;
     let mut end = 0;
     while at < text.len() {
-        let line = record::read(&text[at..], record);
-        if line == 0 {
+        let Some(line) = record::read(&text[at..], record) else {
             return stopped(Refusal::Record(number), number);
-        }
+        };
         let size = record::FRAME + record[0] as usize;
         if record[3] == record::END {
             return ended(text.len() - at - line, end, number);

@@ -34,10 +34,9 @@ fn scan(text: &[u8]) -> Result<usize, Refusal>
     let mut number = 1;
     let mut size = 0;
     while at < text.len() {
-        let line = line::line_length(&text[at..]);
-        if line == 0 {
+        let Some(line) = line::line_length(&text[at..]) else {
             return Err(Refusal::Line(number));
-        }
+        };
         size += packed_size(line);
         number += 1;
         at += line;

@@ -12,10 +12,10 @@ use Rattle.ihex.proofs.walk.Goals as goal
 pub loop-at-init : goal.loop-at-init
 loop-at-init c = (([], sofar_start _ _ _ _ c.requires.1), refl, refl, refl)
 
-pub returns-then-line-eq0 : goal.returns-then-line-eq0
-returns-then-line-eq0 c =
+pub returns-in_default : goal.returns-in_default
+returns-in_default c =
     let l = c.loop-at in
-    let p = walk_bad l.invariant.0.1 c.loop-at-test.true (line_bad_read _ _ _ c.loop-at-test.true c.read-line.ensures.0 c.if-line-eq0.true) in
+    let p = walk_bad l.invariant.0.1 c.loop-at-test.true (line_bad_read _ _ 0 c.loop-at-test.true c.in_default.ensures.length refl) in
     stops _ _ _ _ _ _ c.stopped.ensures p.0 p.1
 
 pub overflow_cast-size : goal.overflow_cast-size
@@ -28,7 +28,7 @@ pub overflow_sub-text-then-record-eq-END : goal.overflow_sub-text-then-record-eq
 overflow_sub-text-then-record-eq-END c =
     let l = c.loop-at in
     let room : 260 ≤ length l.«record» = let i = l.invariant.1 in let p = c.requires.0 in omega arith in
-    let q = line_read c.args.text.now l.at l.«record» _ _ c.read-line.ensures.0 c.read-line.ensures.1 room c.if-line-eq0.false in
+    let q = line_read c.args.text.now l.at l.«record» _ _ c.in-Some.ensures.length c.in-Some.ensures.laid room c.in-Some.ensures.some.0 in
     let w = line-within l.invariant.0.1 c.loop-at-test.true q.0.formed _ q.1 in omega arith
 
 pub ended-requires : goal.ended-requires
@@ -38,21 +38,21 @@ pub returns-then-record-eq-END : goal.returns-then-record-eq-END
 returns-then-record-eq-END c =
     let l = c.loop-at in
     let room : 260 ≤ length l.«record» = let i = l.invariant.1 in let p = c.requires.0 in omega arith in
-    let q = line_read c.args.text.now l.at l.«record» _ _ c.read-line.ensures.0 c.read-line.ensures.1 room c.if-line-eq0.false in
+    let q = line_read c.args.text.now l.at l.«record» _ _ c.in-Some.ensures.length c.in-Some.ensures.laid room c.in-Some.ensures.some.0 in
     walk_ends l.invariant.0.1 c.loop-at-test.true q.0.formed _ q.1 _ (sym q.0.type ∙ c.if-record-eq-END.true) c.ended.ensures
 
 pub slice_bounds-lay-end : goal.slice_bounds-lay-end
 slice_bounds-lay-end c =
     let l = c.loop-at in
     let room : 260 ≤ length l.«record» = let i = l.invariant.1 in let p = c.requires.0 in omega arith in
-    let q = line_read c.args.text.now l.at l.«record» _ _ c.read-line.ensures.0 c.read-line.ensures.1 room c.if-line-eq0.false in
+    let q = line_read c.args.text.now l.at l.«record» _ _ c.in-Some.ensures.length c.in-Some.ensures.laid room c.in-Some.ensures.some.0 in
     let b = q.0.bytes in let w = q.0.short in let k = q.0.kept in omega arith
 
 pub lay-requires : goal.lay-requires
 lay-requires c =
     let l = c.loop-at in
     let room : 260 ≤ length l.«record» = let i = l.invariant.1 in let p = c.requires.0 in omega arith in
-    let q = line_read c.args.text.now l.at l.«record» _ _ c.read-line.ensures.0 c.read-line.ensures.1 room c.if-line-eq0.false in
+    let q = line_read c.args.text.now l.at l.«record» _ _ c.in-Some.ensures.length c.in-Some.ensures.laid room c.in-Some.ensures.some.0 in
     let f = q.0.front _ (ap (λ (n : ℕ). 5 + n) q.0.bytes) in
     let h = l.invariant.0.1.holds in
     (rw f q.0.whole, h.room, h.size)
@@ -61,7 +61,7 @@ pub returns-in-Err : goal.returns-in-Err
 returns-in-Err c =
     let l = c.loop-at in
     let room : 260 ≤ length l.«record» = let i = l.invariant.1 in let p = c.requires.0 in omega arith in
-    let q = line_read c.args.text.now l.at l.«record» _ _ c.read-line.ensures.0 c.read-line.ensures.1 room c.if-line-eq0.false in
+    let q = line_read c.args.text.now l.at l.«record» _ _ c.in-Some.ensures.length c.in-Some.ensures.laid room c.in-Some.ensures.some.0 in
     let f = q.0.front _ (ap (λ (n : ℕ). 5 + n) q.0.bytes) in
     let x = l.invariant.0.1 in
     let p = walk_refused x c.loop-at-test.true q.0.formed _ (laid_refused _ _ _ _ _ _ _ _ _ f c.in-Err.is (c.lay.ensures _ x.holds)) in
@@ -71,14 +71,14 @@ pub slice_bounds-upper_after-end : goal.slice_bounds-upper_after-end
 slice_bounds-upper_after-end c =
     let l = c.loop-at in
     let room : 260 ≤ length l.«record» = let i = l.invariant.1 in let p = c.requires.0 in omega arith in
-    let q = line_read c.args.text.now l.at l.«record» _ _ c.read-line.ensures.0 c.read-line.ensures.1 room c.if-line-eq0.false in
+    let q = line_read c.args.text.now l.at l.«record» _ _ c.in-Some.ensures.length c.in-Some.ensures.laid room c.in-Some.ensures.some.0 in
     let b = q.0.bytes in let w = q.0.short in let k = q.0.kept in omega arith
 
 pub upper_after-upper-requires : goal.upper_after-upper-requires
 upper_after-upper-requires c =
     let l = c.loop-at in
     let room : 260 ≤ length l.«record» = let i = l.invariant.1 in let p = c.requires.0 in omega arith in
-    let q = line_read c.args.text.now l.at l.«record» _ _ c.read-line.ensures.0 c.read-line.ensures.1 room c.if-line-eq0.false in
+    let q = line_read c.args.text.now l.at l.«record» _ _ c.in-Some.ensures.length c.in-Some.ensures.laid room c.in-Some.ensures.some.0 in
     let f = q.0.front _ (ap (λ (n : ℕ). 5 + n) q.0.bytes) in
     (rw f q.0.whole, rw f q.0.good)
 
@@ -86,7 +86,7 @@ pub overflow_add-at : goal.overflow_add-at
 overflow_add-at c =
     let l = c.loop-at in
     let room : 260 ≤ length l.«record» = let i = l.invariant.1 in let p = c.requires.0 in omega arith in
-    let q = line_read c.args.text.now l.at l.«record» _ _ c.read-line.ensures.0 c.read-line.ensures.1 room c.if-line-eq0.false in
+    let q = line_read c.args.text.now l.at l.«record» _ _ c.in-Some.ensures.length c.in-Some.ensures.laid room c.in-Some.ensures.some.0 in
     let w = line-within l.invariant.0.1 c.loop-at-test.true q.0.formed _ q.1 in omega arith
 
 pub overflow_add-number : goal.overflow_add-number
@@ -96,14 +96,14 @@ pub loop-at-smaller : goal.loop-at-smaller
 loop-at-smaller c =
     let l = c.loop-at in
     let room : 260 ≤ length l.«record» = let i = l.invariant.1 in let p = c.requires.0 in omega arith in
-    let q = line_read c.args.text.now l.at l.«record» _ _ c.read-line.ensures.0 c.read-line.ensures.1 room c.if-line-eq0.false in
+    let q = line_read c.args.text.now l.at l.«record» _ _ c.in-Some.ensures.length c.in-Some.ensures.laid room c.in-Some.ensures.some.0 in
     let w = line-within l.invariant.0.1 c.loop-at-test.true q.0.formed _ q.1 in let g = q.0.long in let e = q.1 in omega arith
 
 pub loop-at-preserved : goal.loop-at-preserved
 loop-at-preserved c =
     let l = c.loop-at in
     let room : 260 ≤ length l.«record» = let i = l.invariant.1 in let p = c.requires.0 in omega arith in
-    let q = line_read c.args.text.now l.at l.«record» _ _ c.read-line.ensures.0 c.read-line.ensures.1 room c.if-line-eq0.false in
+    let q = line_read c.args.text.now l.at l.«record» _ _ c.in-Some.ensures.length c.in-Some.ensures.laid room c.in-Some.ensures.some.0 in
     let f = q.0.front _ (ap (λ (n : ℕ). 5 + n) q.0.bytes) in
     let x = l.invariant.0.1 in
     let p = laid-bytes _ _ _ _ _ _ _ _ _ f c.in-Ok.is (c.lay.ensures _ x.holds) in

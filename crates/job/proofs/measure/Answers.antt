@@ -1,5 +1,4 @@
 -- `job::measure` meets its contract. Assumes nothing.
-use Rattle.job.proofs.Measuring.{measure_long}
 use Rattle.refusal.specs.Delivery.{in_numbers}
 use mathlib.Core.Path.{ap}
 use Rattle.job.proofs.measure.Goals as goal
