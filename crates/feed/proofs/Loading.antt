@@ -1,5 +1,5 @@
--- Laws of `Loaded`: what reading into a part of a buffer leaves, and reading nothing. Assumes nothing.
-use mathlib.Core.Path.{◌≡◌, refl, ◌∙◌}
+-- The law of `Loaded`: what reading into a part of a buffer leaves. Assumes nothing.
+use mathlib.Core.Path.{◌≡◌, ◌∙◌}
 use mathlib.Core.List.{List}
 use Prim.Native.Nat.{ℕ, ◌+◌, ◌-◌, ◌≤◌}
 use native.Mathlib.Omega.{arith}
@@ -20,6 +20,3 @@ loaded_part m ys at count n h l k =
       rest = drop_put at (at + count) m ys a h e;
       none = λ few. let no : ⊥ = omega arith in absurd no;
     }
-
-pub loaded_none : (m : List ℕ) (at count : ℕ) → Loaded at count at m m
-loaded_none m at count = record { first = omega arith; last = omega arith; front = refl; rest = refl; none = λ few. (refl, refl) }

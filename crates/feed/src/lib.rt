@@ -3,15 +3,17 @@
 // What the system reads and writes no contract can say: the gate compares what the programs print.
 #![tactic(auto)]
 
+mod vector;
+
 ghost use Rattle.std.specs.Prelude.{◌≤◌, length};
 ghost use Rattle.feed.specs.Feed.{Loaded};
 
 use std::fs::File;
-use std::io::Read;
 use std::rt::Files;
+pub use vector::{Kind, Vector};
 
 // A proved loop has to end, and nothing says that a file does: more vectors than any file of ours has.
-pub const MOST: usize = 1000000;
+const MOST: usize = 1000000;
 
 // Room for a line.
 const LINE: usize = 256;
@@ -33,36 +35,11 @@ pub fn open(rt: &(impl Files<File = File> + Eprint)) -> Feed {
     }
 }
 
-// One read to the front of `rest`; nothing where it fails.
-fn take(file: &mut File, rest: &mut [u8]) -> usize
-    ensures { result ≤ length rest.new }
-{
-    match file.read(rest) {
-        Ok(count) => count,
-        Err(_) => 0,
-    }
-}
-
-// Reads until the buffer is full, the file ends or a read fails; gives how many bytes came.
-fn fill(file: &mut File, out: &mut [u8]) -> usize
-    ensures { result ≤ length out.new }
-{
-    let mut done = 0;
-    while done < out.len() {
-        let count = take(file, &mut out[done..]);
-        if count == 0 {
-            return done;
-        }
-        done += count;
-    }
-    done
-}
-
 fn full(feed: &mut Feed, out: &mut [u8]) -> usize
     ensures { result ≤ length out.new }
 {
     match &mut feed.file {
-        Some(file) => fill(file, out),
+        Some(file) => files::fill(file, out).unwrap_or(0),
         None => 0,
     }
 }
@@ -72,25 +49,49 @@ pub fn next(feed: &mut Feed, head: &mut [u8]) -> bool {
     full(feed, head) == head.len()
 }
 
+// Takes turns until one finds nothing more, in the file or elsewhere; gives how many found something.
+pub fn turns<F: FnMut() -> bool>(mut turn: F) -> usize
+    requires { F.IsAlwaysCallable turn }
+{
+    for count in 0..MOST {
+        if !turn() {
+            return count;
+        }
+    }
+    MOST
+}
+
 // Reads `count` bytes of the file to place `at` of the buffer, and gives the place behind those that came. Without room
 // nothing is read.
 pub fn load(feed: &mut Feed, buffer: &mut [u8], at: usize, count: usize) -> usize
     ensures { Loaded at count result buffer.old buffer.new }
 {
-    if at <= buffer.len() {
-        if count <= buffer.len() - at {
-            return at + full(feed, &mut buffer[at..at + count]);
-        }
+    if buffer.len() < at || buffer.len() - at < count {
         return at;
     }
-    at
+    at + full(feed, &mut buffer[at..at + count])
+}
+
+// Lends the front of both buffers, in these lengths. What finds no room has no line.
+pub fn lend<F: FnOnce(&mut [u8], &mut [u8])>(
+    input: &mut [u8],
+    size: usize,
+    out: &mut [u8],
+    room: usize,
+    call: F,
+)
+    requires { F.IsAlwaysCallable call }
+{
+    if size <= input.len() && room <= out.len() {
+        call(&mut input[0..size], &mut out[0..room]);
+    }
 }
 
 // Prints what the template says with the numbers, all at once: a line of the output.
 pub fn print(rt: &impl Print, template: &[u8], numbers: &[usize]) {
     let mut line = [0u8; LINE];
     let end = sentence::fill(template, numbers, b"", &mut line, 0);
-    let _ = rt.write_all(&line[0..buffer::least(end, LINE)]);
+    let _ = rt.write_all(&line[0..end.min(LINE)]);
 }
 
 // Prints the last line, how many vectors there were; nothing where there was no file.

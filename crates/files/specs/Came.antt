@@ -1,9 +1,8 @@
 -- What reading a file comes to: no rule of the paper. Assumes nothing.
-use Rattle.std.specs.Prelude.{◌≡◌, false, List, ℕ, ◌≤◌, length}
-use Rattle.files.specs.declared.Got.{Got}
+use Rattle.std.specs.Prelude.{◌≡◌, false, List, ℕ, ◌≤◌, length, Result, Ok, Err}
+use Rattle.files.specs.declared.Unread.{Unread}
 
--- no more bytes count than there is room for, none of a file that is not read; one not opened leaves the buffer alone
-pub record Came (got : Got) (before after : List ℕ) : Type 0 where
-  pub fits : got.count ≤ length after
-  pub unread : got.is_read ≡ false → got.count ≡ 0
-  pub unopened : got.is_opened ≡ false → (got.is_read ≡ false) × (after ≡ before)
+-- no more bytes count than there is room for; a file that is not opened leaves the buffer alone
+abbrev pub Came : Result ℕ Unread → List ℕ → List ℕ → Type 0
+Came (Ok count) before after = count ≤ length after
+Came (Err unread) before after = unread.is_opened ≡ false → after ≡ before

@@ -1,12 +1,9 @@
 // Files: read into lent buffers, and what to say of one that cannot be read; and words written.
 //
-// A program tells of a file which argument names it and, in one text with bars, what it is, what it is called in the
-// current folder, where it is found when there is no such argument, and all that the program takes: `job|job.txt|job
-// and board`. No contract can say what the system reads: that the bytes which came are those of the file is seen by
-// running.
+// No contract can say what the system reads: that the bytes which came are those of the file is seen by running.
 #![tactic(auto)]
 
-ghost use Rattle.std.specs.Prelude.{◌≡◌, true, false, cond, ◌+◌, ◌≤◌, length};
+ghost use Rattle.std.specs.Prelude.{◌≡◌, cond, Ok, Err, MatchResult, IfOk, IfSome, ◌+◌, ◌<◌, ◌≤◌, ◌^◌, length};
 ghost use Rattle.append.specs.Said.{left, said_of};
 ghost use Rattle.files.specs.Came.{Came};
 ghost use Rattle.files.specs.Unreadable.{cause_of, unreadable_of};
@@ -17,7 +14,7 @@ use std::io::{Error, Read};
 use std::rt::{Env, Files};
 use std::{io, str};
 
-// Room for what is said of a file.
+// Room for what is said of a file, and for a sentence.
 const ROOM: usize = 512;
 
 // Room for a path. A longer one is not opened.
@@ -52,25 +49,32 @@ impl System for HostRuntime {
     }
 }
 
-// What keeps a file from being read.
+// A file that a program takes: the argument that names it; what it is; its name in the current folder, where it is
+// found when there is no such argument; and all that the program takes.
 #[derive(Clone, Copy)]
+pub struct Wanted<'a> {
+    pub argument: usize,
+    pub what: &'a [u8],
+    pub name: &'a [u8],
+    pub all: &'a [u8],
+}
+
+// What keeps a file from being read.
+#[derive(Clone, Copy, PartialEq, Eq)]
 pub enum Fault {
-    None,
     Missing,
     Barred,
     Folder,
     Other,
 }
 
-// How a file came out: where it is read, `count` bytes stand in front of the buffer, all of it or as many as there is
-// room for; else there is a fault, and no byte counts.
+// A file of which no byte counts: why, whether an argument names it, and whether it could be opened at all. One that
+// could not leaves the buffer as it was.
 #[derive(Clone, Copy)]
-pub struct Got {
+pub struct Unread {
+    pub fault: Fault,
     pub is_named: bool,
     pub is_opened: bool,
-    pub is_read: bool,
-    pub count: usize,
-    pub fault: Fault,
 }
 
 // The fault behind the system's error.
@@ -83,71 +87,36 @@ fn reason(error: Error) -> Fault {
     }
 }
 
-fn failed(is_opened: bool, fault: Fault) -> Got
-    ensures { (result.is_opened ≡ is_opened) × (result.is_read ≡ false) × (result.count ≡ 0) }
+// The place behind the bytes that a read brings to place `at`; none where it fails.
+fn behind(at: usize, read: Result<usize, Fault>) -> Result<usize, Fault>
+    requires { IfOk read (λ count. at + count < 2 ^ 64) }
+    ensures { MatchResult read (λ count. result ≡ Ok (at + count)) (λ fault. result ≡ Err fault) }
 {
-    Got {
-        is_named: false,
-        is_opened,
-        is_read: false,
-        count: 0,
-        fault,
-    }
+    read.map(|count| at + count)
 }
 
-fn came(count: usize) -> Got
-    ensures { (result.is_opened ≡ true) × (result.is_read ≡ true) × (result.count ≡ count) }
-{
-    Got {
-        is_named: false,
-        is_opened: true,
-        is_read: true,
-        count,
-        fault: Fault::None,
-    }
-}
-
-// One read.
-fn take(file: &mut impl Read, rest: &mut [u8]) -> Got
-    ensures { (result.count ≤ length rest.new) × (result.is_opened ≡ true) }
-{
-    match file.read(rest) {
-        Ok(count) => came(count),
-        Err(error) => failed(true, reason(error)),
-    }
-}
-
-// One read into `buffer` from place `at` on.
-fn more(file: &mut impl Read, buffer: &mut [u8], at: usize) -> Got
+// One read into `buffer` from place `at` on; gives the place behind what came.
+fn more(file: &mut impl Read, buffer: &mut [u8], at: usize) -> Result<usize, Fault>
     requires { at ≤ length buffer.old }
-    ensures { (at + result.count ≤ length buffer.new) × (result.is_opened ≡ true) }
+    ensures { IfOk result (λ end. end ≤ length buffer.new) }
 {
-    take(file, &mut buffer[at..])
+    let read = file.read(&mut buffer[at..]).map_err(reason);
+    behind(at, read)
 }
 
-// How many bytes count, of those that came: none where a read failed.
-fn counted(is_read: bool, count: usize) -> usize
-    ensures { (result ≡ cond is_read count 0) × (result ≤ count) }
-{
-    if is_read { count } else { 0 }
-}
-
-// Reads until the buffer is full, the file ends or a read fails.
-fn fill(file: &mut impl Read, buffer: &mut [u8]) -> Got
-    ensures { (result.count ≤ length buffer.new) × (result.is_opened ≡ true) × (result.is_read ≡ false → result.count ≡ 0) }
+// Reads until the buffer is full or the file ends, and gives how many bytes came; none count where a read fails.
+pub fn fill(file: &mut impl Read, buffer: &mut [u8]) -> Result<usize, Fault>
+    ensures { IfOk result (λ count. count ≤ length buffer.new) }
 {
     let mut at = 0;
     while at < buffer.len() {
-        let got = more(file, buffer, at);
-        if got.count == 0 {
-            return Got {
-                count: counted(got.is_read, at),
-                ..got
-            };
+        let end = more(file, buffer, at)?;
+        if end <= at {
+            return Ok(at);
         }
-        at += got.count;
+        at = end;
     }
-    came(at)
+    Ok(at)
 }
 
 // Opens the file at a path, or says why it cannot be opened. The system is asked only for a path that is UTF-8.
@@ -158,23 +127,13 @@ fn open_path<R: Files>(rt: &R, path: &[u8]) -> Result<R::File, Fault> {
     }
 }
 
-// Opens the file in the folder, whose name is the second text.
-fn open_found<R: Files>(rt: &R, file: &[u8], path: &mut [u8]) -> Result<R::File, Fault> {
-    let length = sentence::fill(b"[$|$]", &[1], file, path, 0);
-    open_path(rt, &path[0..buffer::least(length, path.len())])
-}
-
-fn open<R: System>(
-    rt: &R,
-    is_named: bool,
-    argument: usize,
-    file: &[u8],
-    path: &mut [u8],
-) -> Result<R::File, Fault> {
+// Opens the file that the argument names or, without one, the file in the folder.
+fn open<R: System>(rt: &R, is_named: bool, file: Wanted) -> Result<R::File, Fault> {
     if !is_named {
-        return open_found(rt, file, path);
+        return open_path(rt, file.name);
     }
-    match rt.arg(argument, path) {
+    let mut path = [0u8; PATH];
+    match rt.arg(file.argument, &mut path) {
         Ok(length) => open_path(rt, &path[0..length]),
         Err(_) => Err(Fault::Other),
     }
@@ -182,50 +141,39 @@ fn open<R: System>(
 
 // Does the program have this argument? Argument 0 is its own name.
 fn is_given(rt: &impl Env, argument: usize) -> bool {
-    match rt.arg(argument, &mut [0u8; 0]) {
-        Ok(_) => true,
-        Err(FillError::TooLong) => true,
-        Err(FillError::NotPresent) => false,
-    }
+    !matches!(rt.arg(argument, &mut [0u8; 0]), Err(FillError::NotPresent))
 }
 
 // How many arguments the program has, its own name among them.
 pub fn arguments(rt: &impl Env) -> usize {
-    for i in 0..usize::MAX {
-        if !is_given(rt, i) {
-            return i;
-        }
-    }
-    usize::MAX
+    (0..usize::MAX)
+        .find(|i| !is_given(rt, *i))
+        .unwrap_or(usize::MAX)
 }
 
-// The argument goes to the front of `out`; gives how long it is, or 0 where there is none or `out` has no room for it.
-pub fn argument(rt: &impl Env, argument: usize, out: &mut [u8]) -> usize
-    ensures { result ≤ length out.new }
+// The argument goes to the front of `out`; gives how long it is, if there is one and `out` has room for it.
+pub fn argument(rt: &impl Env, argument: usize, out: &mut [u8]) -> Option<usize>
+    ensures { IfSome result (λ count. count ≤ length out.new) }
 {
-    match rt.arg(argument, out) {
-        Ok(length) => length,
-        Err(_) => 0,
-    }
+    rt.arg(argument, out).ok()
 }
 
 // Reads the file, no further than the buffer goes: one of a byte more than the longest that can be right shows a file
 // that is too long.
-pub fn read(rt: &impl System, argument: usize, file: &[u8], buffer: &mut [u8]) -> Got
+pub fn read(rt: &impl System, file: Wanted, buffer: &mut [u8]) -> Result<usize, Unread>
     ensures { Came result buffer.old buffer.new }
 {
-    let mut path = [0u8; PATH];
-    let is_named = argument < arguments(rt);
-    match open(rt, is_named, argument, file, &mut path) {
-        Ok(mut opened) => {
-            let got = fill(&mut opened, buffer);
-            Got { is_named, ..got }
-        }
-        Err(fault) => Got {
-            is_named,
-            ..failed(false, fault)
-        },
-    }
+    let is_named = file.argument < arguments(rt);
+    let mut opened = open(rt, is_named, file).map_err(|fault| Unread {
+        fault,
+        is_named,
+        is_opened: false,
+    })?;
+    fill(&mut opened, buffer).map_err(|fault| Unread {
+        fault,
+        is_named,
+        is_opened: true,
+    })
 }
 
 // Where the file was looked for: the argument, or 0 for the folder.
@@ -244,33 +192,48 @@ fn cause(fault: Fault, is_named: bool) -> usize
         Fault::Barred => 2,
         Fault::Folder => 3,
         Fault::Other => 4,
-        Fault::None => 4,
     }
 }
 
 // What to say of a file that could not be read goes to the front of `out`; gives how long it is.
-fn complaint(got: Got, argument: usize, file: &[u8], out: &mut [u8]) -> usize
-    ensures { left result out.new ≡ said_of (unreadable_of got.fault got.is_named argument file.now) out.old 0 }
+fn complaint(unread: Unread, file: Wanted, out: &mut [u8]) -> usize
+    ensures { left result out.new ≡ said_of (unreadable_of unread.fault unread.is_named file.entry.argument file.entry.what.now file.entry.name.now file.entry.all.now) out.old 0 }
 {
-    let fault = got.fault;
-    sentence::fill(
-        b"The $ ([$ in this folder|the first argument|the second argument|the third argument|a later argument]) cannot be read: [there is no such file. Put it there, or name $.|there is no such file. Correct the path.|you have no permission. Have the file made readable for you.|it is a folder. Name the file itself.|the system cannot read it. See that the path names a file that can be read.]",
-        &[place(got.is_named, argument), cause(fault, got.is_named)],
-        file,
+    let place = place(unread.is_named, file.argument);
+    let cause = cause(unread.fault, unread.is_named);
+    let begun = sentence::fill(b"The $ (", &[], file.what, out, 0);
+    let found = sentence::fill(
+        b"[$ in this folder|the first argument|the second argument|the third argument|a later argument]",
+        &[place],
+        file.name,
         out,
-        0,
+        begun,
+    );
+    sentence::fill(
+        b") cannot be read: [there is no such file. Put it there, or name $.|there is no such file. Correct the path.|you have no permission. Have the file made readable for you.|it is a folder. Name the file itself.|the system cannot read it. See that the path names a file that can be read.]",
+        &[cause],
+        file.all,
+        out,
+        found,
     )
 }
 
 // Says on standard error why a file could not be read, and what to do.
-pub fn unreadable(rt: &impl System, got: Got, argument: usize, file: &[u8]) {
+pub fn unreadable(rt: &impl System, unread: Unread, file: Wanted) {
     let mut room = [0u8; ROOM];
-    let count = complaint(got, argument, file, &mut room);
+    let count = complaint(unread, file, &mut room);
     write(rt, Stream::Err, &room, count);
     write(rt, Stream::Err, b"\n", 1);
 }
 
 // Writes the first `count` bytes, or all where there are not so many.
 pub fn write(rt: &impl System, to: Stream, words: &[u8], count: usize) {
-    let _ = rt.put(to, &words[0..buffer::least(count, words.len())]);
+    let _ = rt.put(to, &words[0..count.min(words.len())]);
+}
+
+// Says a sentence, as the crate `sentence` reads a template.
+pub fn say(rt: &impl System, to: Stream, template: &[u8], numbers: &[usize]) {
+    let mut room = [0u8; ROOM];
+    let count = sentence::fill(template, numbers, b"", &mut room, 0);
+    write(rt, to, &room, count);
 }

@@ -17,10 +17,6 @@ pub(crate) struct Seen {
     pub line: usize,
 }
 
-fn larger(a: usize, b: usize) -> usize {
-    if a < b { b } else { a }
-}
-
 // The addresses of a record's data.
 fn span_of(upper: u16, record: &[u8]) -> Span {
     let from = upper as usize * 65536 + fields::offset(record) as usize;
@@ -32,7 +28,7 @@ fn span_of(upper: u16, record: &[u8]) -> Span {
 
 // A record of data more.
 fn overlap(seen: Seen, number: usize, span: Span, from: usize) -> Seen {
-    let low = larger(span.from, from);
+    let low = span.from.max(from);
     if low < span.to && low < seen.address {
         return Seen {
             address: low,
@@ -45,8 +41,7 @@ fn overlap(seen: Seen, number: usize, span: Span, from: usize) -> Seen {
 
 // A record more.
 fn more(seen: Seen, number: usize, record: &[u8], from: usize) -> Seen {
-    let kind = fields::kind(record);
-    match kind {
+    match fields::kind(record) {
         record::DATA => overlap(seen, number, span_of(seen.upper, record), from),
         record::UPPER => Seen {
             upper: fields::half(record),
@@ -63,13 +58,10 @@ fn behind(text: &[u8], line: usize, span: Span) -> Seen {
         address: span.to,
         line: 0,
     };
-    let mut at = 0;
-    let mut number = 1;
-    while number < line {
-        let rest = &text[at..];
+    let mut rest = text;
+    for number in 1..line {
         seen = more(seen, number, rest, span.from);
-        at += lines::length(rest);
-        number += 1;
+        rest = lines::others(rest);
     }
     seen
 }
@@ -77,7 +69,7 @@ fn behind(text: &[u8], line: usize, span: Span) -> Seen {
 // The addresses that a line gives.
 pub(crate) fn addresses(text: &[u8], line: usize) -> Span {
     let upper = behind(text, line, Span { from: 0, to: 0 }).upper;
-    span_of(upper, &text[lines::from(text, line)..])
+    span_of(upper, lines::from(text, line))
 }
 
 // The first address of a line that an earlier line gives too, and which.

@@ -8,13 +8,12 @@ mod bad;
 mod fields;
 mod given;
 mod lines;
-mod say;
 
 ghost use Rattle.std.specs.Prelude.{◌≤◌};
 
 use crate::given::Span;
 use board::Board;
-use files::System;
+use files::{Stream, System};
 use refusal::Refusal;
 
 // The most bytes of a text that the programs read. An image of all of the logger's flash has 245,811 with one byte in a
@@ -42,8 +41,9 @@ fn first_outside(flash: Span, from: usize) -> usize {
 
 fn outside(rt: &impl System, text: &[u8], line: usize) {
     let flash = flash();
-    say::fill(
+    files::say(
         rt,
+        Stream::Err,
         b"Line # of the HEX text gives a byte at @, and flash is @ to @. Link the program for flash, then write its HEX anew.\n",
         &[
             line,
@@ -56,37 +56,30 @@ fn outside(rt: &impl System, text: &[u8], line: usize) {
 
 fn twice(rt: &impl System, text: &[u8], line: usize) {
     let first = given::before(text, line);
-    say::fill(
+    files::say(
         rt,
+        Stream::Err,
         b"Line # of the HEX text gives the byte at @ again, which line # has given. Take out what is there twice: two files that were joined, or sections that overlap in the linker's script.\n",
         &[line, first.address, first.line],
     );
 }
 
-// Why a text has no end, as the sentence counts it: it has no line, none of its lines is an end record, or there is one
-// and a line behind it.
-fn ending(text: &[u8], line: usize) -> usize {
-    if text.len() == 0 {
-        return 0;
-    }
-    if lines::from(text, line) < text.len() {
-        2
-    } else {
-        1
-    }
-}
-
+// Why a text has no end: it has no line, none of its lines is an end record, or there is one and a line behind it.
 fn unended(rt: &impl System, text: &[u8], line: usize) {
-    say::fill(
-        rt,
-        b"[The HEX text is empty. Give the HEX of the linked program.|The HEX text stops before line #, without an end record, which is :00000001FF. Get the file again, for it may have been cut, or write it anew.|Line # of the HEX text stands behind the end record. Take out what follows that record; where two files were joined, give one of them.]\n",
-        &[ending(text, line), line, line],
-    );
+    let words: &[u8] = if text.is_empty() {
+        b"The HEX text is empty. Give the HEX of the linked program.\n"
+    } else if lines::from(text, line).is_empty() {
+        b"The HEX text stops before line #, without an end record, which is :00000001FF. Get the file again, for it may have been cut, or write it anew.\n"
+    } else {
+        b"Line # of the HEX text stands behind the end record. Take out what follows that record; where two files were joined, give one of them.\n"
+    };
+    files::say(rt, Stream::Err, words, &[line]);
 }
 
 fn empty(rt: &impl System, line: usize) {
-    say::fill(
+    files::say(
         rt,
+        Stream::Err,
         b"The HEX text ends in line # and gives no data. Give the HEX of the linked program.\n",
         &[line],
     );
@@ -100,11 +93,12 @@ pub fn explain(rt: &impl System, why: Refusal, text: &[u8]) {
         Refusal::Twice => twice(rt, text, ihex::faulty_line(text)),
         Refusal::Unended => unended(rt, text, ihex::faulty_line(text)),
         Refusal::Empty => empty(rt, ihex::faulty_line(text)),
-        Refusal::File => say::fill(
+        Refusal::File => files::say(
             rt,
+            Stream::Err,
             b"The HEX text has more than # bytes, which no image needs. Give the HEX of one program.\n",
             &[MOST],
         ),
-        _ => say::fill(rt, b"The image has no room here.\n", &[0]),
+        _ => files::say(rt, Stream::Err, b"The image has no room here.\n", &[]),
     }
 }

@@ -2,45 +2,38 @@
 ghost use Rattle.std.specs.Prelude.{◌≤◌, length};
 
 // How long the line at the front is, with its end; all that is left, where it does not end.
-pub(crate) fn length(rest: &[u8]) -> usize
+fn length(rest: &[u8]) -> usize
     ensures { result ≤ length rest.now }
 {
-    let mut i = 0;
-    while i < rest.len() {
-        if rest[i] == b'\n' {
-            return i + 1;
-        }
-        i += 1;
+    match rest.iter().position(|byte| *byte == b'\n') {
+        Some(at) => at + 1,
+        None => rest.len(),
     }
-    i
 }
 
-// The place where a line begins, counted from 1; where the text ends, if there are not so many.
-pub(crate) fn from(text: &[u8], line: usize) -> usize
-    ensures { result ≤ length text.now }
-{
-    let mut at = 0;
-    let mut number = 1;
-    while number < line {
-        at += length(&text[at..]);
-        number += 1;
-    }
-    at
+// The line at the front, with its end.
+pub(crate) fn first(rest: &[u8]) -> &[u8] {
+    &rest[0..length(rest)]
 }
 
-// How many characters a line has before its end, LF or CR LF; all of them are before it, where it does not end.
-pub(crate) fn stem(line: &[u8]) -> usize
-    ensures { result ≤ length line.now }
-{
-    let size = line.len();
-    if size == 0 {
-        return 0;
+// What stands behind the line at the front.
+pub(crate) fn others(rest: &[u8]) -> &[u8] {
+    &rest[length(rest)..]
+}
+
+// A text from one of its lines on, counted from 1; nothing, if there are not so many.
+pub(crate) fn from(text: &[u8], line: usize) -> &[u8] {
+    let mut rest = text;
+    for _ in 1..line {
+        rest = others(rest);
     }
-    if line[size - 1] != b'\n' {
-        return size;
+    rest
+}
+
+// A line without its end, LF or CR LF; all of it, where it does not end.
+pub(crate) fn record(line: &[u8]) -> &[u8] {
+    match line {
+        [record @ .., b'\r', b'\n'] | [record @ .., b'\n'] => record,
+        _ => line,
     }
-    if 1 < size && line[size - 2] == b'\r' {
-        return size - 2;
-    }
-    size - 1
 }

@@ -4,22 +4,35 @@ use device::{Device, Pending};
 use files::System;
 use request::{Request, Setup};
 
-// What is done, as the sentence in `tell` counts it, with the block and so many bytes from an address on; a count of 0
-// stands for none.
+// What is done, in the order of the parts of the sentence in `tell`.
+#[derive(Clone, Copy, PartialEq, Eq)]
+enum What {
+    Nothing,
+    Unknown,
+    MassErase,
+    ReadUnprotect,
+    SetPointer,
+    ErasePage,
+    Write,
+    Leave,
+    List,
+    Read,
+    // A transfer of block 1, which no address has.
+    Astray,
+}
+
+// A deed with the block and so many bytes from an address on; a count of 0 stands for none.
 #[derive(Clone, Copy)]
 pub struct Deed {
-    what: usize,
+    what: What,
     block: u16,
     count: u16,
     from: u64,
     size: u16,
 }
 
-// The number of the deed that leaves.
-const LEAVE: usize = 7;
-
 // A deed that concerns no address.
-fn plain(what: usize, block: u16, count: u16) -> Deed {
+fn plain(what: What, block: u16, count: u16) -> Deed {
     Deed {
         what,
         block,
@@ -30,46 +43,42 @@ fn plain(what: usize, block: u16, count: u16) -> Deed {
 }
 
 // One that concerns an address.
-fn pointed(what: usize, address: u32) -> Deed {
+fn pointed(what: What, address: u32) -> Deed {
     Deed {
-        what,
-        block: 0,
-        count: 0,
         from: address as u64,
         size: 1,
+        ..plain(what, 0, 0)
     }
 }
 
 // One that moves a block.
-fn moved(what: usize, block: u16, count: u16, pointer: u32) -> Deed {
+fn moved(what: What, block: u16, count: u16, pointer: u32) -> Deed {
     Deed {
-        what,
-        block,
-        count,
         from: access::block_address(block, pointer),
         size: count,
+        ..plain(what, block, count)
     }
 }
 
 // A command that waits, or would.
 fn of(pointer: u32, pending: Pending) -> Deed {
     match pending {
-        Pending::Nothing => plain(1, 0, 0),
-        Pending::MassErase => plain(2, 0, 0),
-        Pending::ReadUnprotect => plain(3, 0, 0),
-        Pending::SetPointer(address) => pointed(4, address),
-        Pending::ErasePage(address) => pointed(5, address),
-        Pending::Write { block, count } => moved(6, block, count, pointer),
+        Pending::Nothing => plain(What::Unknown, 0, 0),
+        Pending::MassErase => plain(What::MassErase, 0, 0),
+        Pending::ReadUnprotect => plain(What::ReadUnprotect, 0, 0),
+        Pending::SetPointer(address) => pointed(What::SetPointer, address),
+        Pending::ErasePage(address) => pointed(What::ErasePage, address),
+        Pending::Write { block, count } => moved(What::Write, block, count, pointer),
     }
 }
 
 // A DNLOAD; `spelled` is the command that it spells.
 fn download(pointer: u32, setup: Setup, spelled: Pending) -> Deed {
     if setup.length == 0 {
-        return plain(LEAVE, 0, 0);
+        return plain(What::Leave, 0, 0);
     }
     if setup.value == 1 {
-        return plain(0, 1, setup.length);
+        return plain(What::Nothing, 1, setup.length);
     }
     of(pointer, spelled)
 }
@@ -78,16 +87,16 @@ fn upload(pointer: u32, setup: Setup) -> Deed {
     let block = setup.value;
     let count = setup.length;
     match block {
-        0 => plain(8, 0, 0),
-        1 => plain(10, block, count),
-        _ => moved(9, block, count, pointer),
+        0 => plain(What::List, 0, 0),
+        1 => plain(What::Astray, block, count),
+        _ => moved(What::Read, block, count, pointer),
     }
 }
 
 // What a GETSTATUS runs.
 fn status(pointer: u32, waits: Pending) -> Deed {
     match waits {
-        Pending::Nothing => plain(0, 0, 0),
+        Pending::Nothing => plain(What::Nothing, 0, 0),
         _ => of(pointer, waits),
     }
 }
@@ -100,40 +109,53 @@ fn known(device: Device, request: Request, setup: Setup, spelled: Pending) -> De
         Request::Download => download(pointer, setup, spelled),
         Request::Upload => upload(pointer, setup),
         Request::GetStatus => status(pointer, waits),
-        _ => plain(0, 0, 0),
+        _ => plain(What::Nothing, 0, 0),
     }
 }
 
 // What stands in front of the deed: nothing, what a GETSTATUS runs, or what a DNLOAD is for.
-fn lead(request: Request, what: usize) -> usize {
-    match request {
-        Request::GetStatus => if what == 0 { 0 } else { 1 },
-        Request::Download => if what == LEAVE { 0 } else { 2 },
-        _ => 0,
+#[derive(Clone, Copy)]
+enum Lead {
+    Nothing,
+    Runs,
+    Aims,
+}
+
+impl Lead {
+    fn of(request: Request, what: What) -> Lead {
+        match request {
+            Request::GetStatus if what != What::Nothing => Lead::Runs,
+            Request::Download if what != What::Leave => Lead::Aims,
+            _ => Lead::Nothing,
+        }
     }
 }
 
-fn tell(rt: &impl System, lead: usize, deed: Deed) {
+fn tell(rt: &impl System, lead: Lead, deed: Deed) {
+    let what = deed.what as usize;
     let count = deed.count as usize;
     let block = deed.block as usize;
     say::fill(
         rt,
         b"[|, which runs | for ][|a command that the loader does not know|the mass erase|the read unprotect|the set pointer to |the erase of the page at |the write of | of length 0, which asks the loader to leave| of the list of commands| of | of ][|# byte, block #|# bytes, block #][||||||, into |||, out of |]",
-        &[
-            lead, deed.what, count, count, block, count, block, deed.what,
-        ],
+        &[lead as usize, what, count, count, block, count, block, what],
     );
     if deed.size != 0 {
         place::span(rt, deed.from, deed.size);
     }
 }
 
-// The line that changed something, and what it ran on the device; `letter` is 0 for a capital one, at the front of a
-// sentence.
-pub(crate) fn ran(rt: &impl System, letter: usize, line: usize, device: Device) {
-    let pending = device.pending;
-    say::tell(rt, b"[L|l]ine # of the job runs ", letter, line, 0, 0);
-    tell(rt, 0, of(device.pointer, pending));
+// Where a sentence's first word stands.
+#[derive(Clone, Copy)]
+pub(crate) enum Letter {
+    Capital,
+    Small,
+}
+
+// The line that changed something, and what it ran on the device.
+pub(crate) fn ran(rt: &impl System, letter: Letter, line: usize, device: Device) {
+    say::fill(rt, b"[L|l]ine # of the job runs ", &[letter as usize, line]);
+    tell(rt, Lead::Nothing, of(device.pointer, device.pending));
 }
 
 // A request to a device in this state; `spelled` is the command that its data spells.
@@ -143,6 +165,6 @@ pub(crate) fn describe(rt: &impl System, device: Device, setup: Setup, spelled: 
     say::request(rt, form::named(setup));
     match request {
         Request::Unknown => form::describe(rt, setup),
-        _ => tell(rt, lead(request, deed.what), deed),
+        _ => tell(rt, Lead::of(request, deed.what), deed),
     }
 }

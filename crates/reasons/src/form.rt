@@ -5,22 +5,20 @@ use request::{Request, Setup};
 
 // The request that type and code name, whatever the fields are.
 pub(crate) fn named(setup: Setup) -> Request {
-    let key = setup.kind as u32 * 256 + setup.code as u32;
-    match key {
-        0x2101 => Request::Download,
-        0x2104 => Request::ClearStatus,
-        0x2106 => Request::Abort,
-        0xA102 => Request::Upload,
-        0xA103 => Request::GetStatus,
-        0xA105 => Request::GetState,
+    match (setup.kind, setup.code) {
+        (0x21, 1) => Request::Download,
+        (0x21, 4) => Request::ClearStatus,
+        (0x21, 6) => Request::Abort,
+        (0xA1, 2) => Request::Upload,
+        (0xA1, 3) => Request::GetStatus,
+        (0xA1, 5) => Request::GetState,
         _ => Request::Unknown,
     }
 }
 
 // A setup's code where type and code name a request, else 0: so the sentences count requests.
 fn number(setup: Setup) -> usize {
-    let request = named(setup);
-    match request {
+    match named(setup) {
         Request::Unknown => 0,
         _ => setup.code as usize,
     }
@@ -42,33 +40,37 @@ pub(crate) fn describe(rt: &impl System, setup: Setup) {
     );
 }
 
-// What to do about fields that are not as they have to be: correct them, or write or read in more blocks. Only blocks
-// can be too long.
-fn mend(request: usize, length: u16) -> usize {
-    if request == 0 {
-        return 0;
-    }
-    if length <= Setup::TRANSFER {
-        return 1;
-    }
-    match request {
-        1 => 2,
-        2 => 3,
-        _ => 1,
+// What to do about fields that are not as they have to be, in the order of the sentence's parts.
+#[derive(Clone, Copy)]
+enum Cure {
+    Nothing,
+    Setup,
+    Writes,
+    Reads,
+}
+
+impl Cure {
+    // Correct the setup, or write or read in more blocks: only blocks can be too long.
+    fn of(request: Request, length: u16) -> Cure {
+        match request {
+            Request::Unknown => Cure::Nothing,
+            Request::Download if Setup::TRANSFER < length => Cure::Writes,
+            Request::Upload if Setup::TRANSFER < length => Cure::Reads,
+            _ => Cure::Setup,
+        }
     }
 }
 
 // What the fields have to be.
 pub(crate) fn correct(rt: &impl System, setup: Setup) {
-    let request = number(setup);
     say::fill(
         rt,
         b"The loader stalls it, for [only DNLOAD, UPLOAD, GETSTATUS, CLRSTATUS, GETSTATE and ABORT are known to it. Correct type and code, or take the line out.|a DNLOAD has wIndex 0 and wLength 0 to #.|an UPLOAD has wIndex 0 and wLength 1 to #.|a GETSTATUS has wValue 0, wIndex 0 and wLength 6.|a CLRSTATUS has wValue 0, wIndex 0 and wLength 0.|a GETSTATE has wValue 0, wIndex 0 and wLength 1.|an ABORT has wValue 0, wIndex 0 and wLength 0.][| Correct the setup.| Write the bytes in two or more blocks.| Read the bytes in two or more blocks.]",
         &[
-            request,
+            number(setup),
             Setup::TRANSFER as usize,
             Setup::TRANSFER as usize,
-            mend(request, setup.length),
+            Cure::of(named(setup), setup.length) as usize,
         ],
     );
 }

@@ -1,6 +1,4 @@
 // Addresses in words: where they lie, and in which pages.
-ghost use Rattle.std.specs.Prelude.{◌≤◌};
-
 use crate::say;
 use board::{Board, Place};
 use files::System;
@@ -8,29 +6,34 @@ use files::System;
 // How many addresses there are.
 const ADDRESSES: u64 = 0x1_0000_0000;
 
-// Where bytes lie, as the sentence counts it: in RAM, in the options, nowhere, in a page of flash, or in more.
-fn region(place: Place, low: usize, high: usize) -> usize {
-    match place {
-        Place::Ram(_) => 0,
-        Place::Options(_) => 1,
-        Place::Outside => 2,
-        Place::Flash(_) => if low == high { 3 } else { 4 },
-    }
+// Where bytes lie, in the order of the sentence's parts: in one page of flash, or in more.
+#[derive(Clone, Copy)]
+enum Region {
+    Ram,
+    Options,
+    Nowhere,
+    Page,
+    Pages,
 }
 
-fn but_one(count: u16) -> usize
-    ensures { result ≤ 65535 }
-{
-    if count == 0 {
-        return 0;
+impl Region {
+    fn of(place: Place, low: usize, high: usize) -> Region {
+        match place {
+            Place::Ram(_) => Region::Ram,
+            Place::Options(_) => Region::Options,
+            Place::Outside => Region::Nowhere,
+            Place::Flash(_) => if low == high {
+                Region::Page
+            } else {
+                Region::Pages
+            },
+        }
     }
-    count as usize - 1
 }
 
 // The page of an address, or 0 where it lies in none.
 fn page_of(address: usize) -> usize {
-    let place = Board::LOGGER.place(address as u64, 1);
-    match place {
+    match Board::LOGGER.place(address as u64, 1) {
         Place::Flash(at) => Board::LOGGER.page_at(at),
         _ => 0,
     }
@@ -40,7 +43,8 @@ fn page_of(address: usize) -> usize {
 pub(crate) fn span(rt: &impl System, from: u64, count: u16) {
     let place = Board::LOGGER.place(from, count as u64);
     let first = (from % ADDRESSES) as usize;
-    let last = first + but_one(count);
+    let others = count.saturating_sub(1) as usize;
+    let last = first + others;
     let low = page_of(first);
     let high = page_of(last);
     say::fill(
@@ -48,9 +52,9 @@ pub(crate) fn span(rt: &impl System, from: u64, count: u16) {
         b"@[| to @][ (RAM)| (options)| (not in a region)| (page #)| (pages # to #)]",
         &[
             first,
-            but_one(count),
+            others,
             last,
-            region(place, low, high),
+            Region::of(place, low, high) as usize,
             low,
             low,
             high,

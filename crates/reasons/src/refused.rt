@@ -6,30 +6,35 @@ use refusal::Refusal;
 
 // The job works on every board.
 pub fn passed(rt: &impl System, image: usize) {
-    say::tell(
+    say::fill(
         rt,
         b"Play the job: on every board with this card, whatever its flash and RAM hold, it puts the image of # byte[s||s] in place and starts it.",
-        image,
-        image,
-        0,
-        0,
+        &[image, image],
     );
 }
 
-// What is wrong with the length of image or card, as the sentence counts it.
-fn amount(why: Refusal, image: usize, card: usize) -> usize {
-    match why {
-        Refusal::Image => if image == 0 { 0 } else { 1 },
-        Refusal::Card => plural(card),
-        _ => 5,
-    }
+// What is wrong with the length of image or card, in the order of the sentence's parts.
+#[derive(Clone, Copy)]
+enum Amount {
+    Empty,
+    Above,
+    Byte,
+    Bytes,
+    More,
+    Right,
 }
 
-fn plural(card: usize) -> usize {
-    if Board::OPTION_BYTES < card {
-        return 4;
+impl Amount {
+    fn of(why: Refusal, image: usize, card: usize) -> Amount {
+        match why {
+            Refusal::Image if image == 0 => Amount::Empty,
+            Refusal::Image => Amount::Above,
+            Refusal::Card if Board::OPTION_BYTES < card => Amount::More,
+            Refusal::Card if card == 1 => Amount::Byte,
+            Refusal::Card => Amount::Bytes,
+            _ => Amount::Right,
+        }
     }
-    if card == 1 { 2 } else { 3 }
 }
 
 // A refusal of the checker; the sentence picks by its number. The ones left out are not its own, or are about a work
@@ -42,7 +47,7 @@ pub fn refuses(rt: &impl System, why: Refusal, image: usize, card: usize, longes
         &[
             number,
             why.line(),
-            amount(why, image, card),
+            Amount::of(why, image, card) as usize,
             card,
             card,
             Board::OPTION_BYTES,

@@ -3,8 +3,8 @@ use Rattle.std.proofs.Common.{◌+◌, ◌≤◌, length, arith}
 use Rattle.feed.proofs.Loading.{loaded_part}
 use Rattle.feed.proofs.load.Goals as goal
 
-pub returns-then-count-buffer : goal.returns-then-count-buffer
-returns-then-count-buffer c =
+pub returns : goal.returns
+returns c =
     let a = c.args in
     let r = c.full in
     let f : a.at + a.count ≤ length a.buffer.now = omega arith in
