@@ -8,34 +8,28 @@ use device::{Device, Pending};
 use files::System;
 use reasons::ends::{Altered, Stopped};
 use reasons::event::Failed;
-use reasons::flash::Found;
+use reasons::flash::{Found, Side};
 use reasons::{ends, event, flash, refused};
 use refusal::Refusal;
 use verdict::Verdict;
 
 // How many events come before the one in this line.
 fn before(line: usize) -> usize {
-    if line == 0 {
-        return 0;
-    }
-    line - 1
+    line.saturating_sub(1)
 }
 
 // The event that fails, and the board before it.
 fn failed(rt: &impl System, line: usize, packed: &[u8], card: &[u8]) {
     let scene = trial::run(packed, before(line), card, 0, 0);
-    let at = buffer::least(scene.at, packed.len());
+    let at = scene.at.min(packed.len());
     let asked = player::asks(&packed[at..]);
-    let device = scene.device;
-    let setup = asked.setup;
-    let spelled = asked.pending;
     event::fails(
         rt,
         Failed {
             line,
-            device,
-            setup,
-            spelled,
+            device: scene.device,
+            setup: asked.setup,
+            spelled: asked.pending,
             left: scene.left,
             dirt: scene.dirt,
             is_protected: scene.is_protected,
@@ -47,7 +41,7 @@ fn failed(rt: &impl System, line: usize, packed: &[u8], card: &[u8]) {
 fn ended(rt: &impl System, condition: u8, packed: &[u8], card: &[u8]) {
     let all = packed.len();
     let scene = trial::run(packed, all, card, 0, 0);
-    let number = buffer::least(scene.altered, Board::OPTION_BYTES);
+    let number = scene.altered.min(Board::OPTION_BYTES);
     let place = Board::LOGGER.options_from() + number;
     let option = trial::run(packed, all, card, 0, place);
     let cause = trial::run(packed, before(option.changed), card, 0, place);
@@ -58,9 +52,8 @@ fn ended(rt: &impl System, condition: u8, packed: &[u8], card: &[u8]) {
         line: option.changed,
         is_protected: protection::locked(card, 0),
     };
-    let device = scene.device;
     let stopped = Stopped {
-        device,
+        device: scene.device,
         count: scene.count,
         pointed: scene.pointed,
         left: scene.left,
@@ -70,39 +63,37 @@ fn ended(rt: &impl System, condition: u8, packed: &[u8], card: &[u8]) {
 
 // The byte that belongs into flash at an offset, in the pages of the image.
 fn wanted(offset: usize, image: &[u8]) -> u8 {
-    if offset < image.len() {
-        return image[offset];
-    }
-    0xFF
+    image.get(offset).copied().unwrap_or(0xFF)
 }
 
-// Where an offset in this page lies: 0 in the image, 1 behind it in its last page, 2 in a page that it does not reach.
-fn side(offset: usize, page: usize, image: &[u8]) -> usize {
+// Where an offset in this page lies.
+fn side_of(offset: usize, page: usize, image: &[u8]) -> Side {
     if offset < image.len() {
-        return 0;
+        Side::Image
+    } else if page < Board::LOGGER.pages_of(image) {
+        Side::Behind
+    } else {
+        Side::Beyond
     }
-    if page < Board::LOGGER.pages_of(image) {
-        return 1;
-    }
-    2
 }
 
 // The place in memory of an offset in flash.
 fn place_of(offset: usize) -> usize {
-    Board::LOGGER.flash_from() + buffer::least(offset, Board::LOGGER.flash_bytes())
+    Board::LOGGER.flash_from() + offset.min(Board::LOGGER.flash_bytes())
 }
 
 // Of the last two lines that changed a byte, the one that is at fault: the last or, behind the image, where that one
 // wrote, the one before it, which erased. `last` is the device before the last one.
-fn doer(side: usize, changed: usize, earlier: usize, last: Device) -> usize {
-    let pending = last.pending;
-    if side < 2 {
-        return changed;
-    }
-    match pending {
-        Pending::Write { .. } => earlier,
+fn doer(side: Side, changed: usize, earlier: usize, last: Device) -> usize {
+    match last.pending {
+        Pending::Write { .. } if side == Side::Beyond => earlier,
         _ => changed,
     }
+}
+
+// A line, where there is one: 0 stands for none.
+fn some_line(line: usize) -> Option<usize> {
+    if line == 0 { None } else { Some(line) }
 }
 
 // The byte that differs, on two boards, and what did something to it.
@@ -111,7 +102,7 @@ fn differs(rt: &impl System, offset: usize, packed: &[u8], image: &[u8], card: &
     let board = Board::LOGGER;
     let place = place_of(offset);
     let page = board.page_at(place);
-    let side = side(offset, page, image);
+    let side = side_of(offset, page, image);
     let option = board.options_from() + protection::option_of(board, page);
     let zero = trial::run(packed, all, card, 0, place);
     let erased = trial::run(packed, all, card, 0xFF, place);
@@ -126,7 +117,7 @@ fn differs(rt: &impl System, offset: usize, packed: &[u8], image: &[u8], card: &
         erased: erased.byte,
         want: wanted(offset, image),
         is_locked: protection::write_protected(protection::word(board, card, 0), page),
-        line: guard.changed,
+        line: some_line(guard.changed),
     };
     flash::wrong(rt, found, line, cause.device);
 }

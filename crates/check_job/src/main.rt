@@ -3,8 +3,9 @@
 #![tactic(auto)]
 
 use board::Board;
-use files::{Got, Stream, System};
+use files::{Stream, System, Unread, Wanted};
 use refusal::Refusal;
+use telling::Much;
 use verdict::Verdict;
 
 // A byte more than the longest job, image and card.
@@ -22,8 +23,8 @@ const NAMED: usize = 4;
 const WORD: usize = 5;
 
 // How much is said of the next file: nothing, once the program has refused for one.
-fn after(much: usize, got: Got) -> usize {
-    if got.is_read { much } else { telling::NOTHING }
+fn after(much: Much, came: Result<usize, Unread>) -> Much {
+    if came.is_ok() { much } else { Much::Nothing }
 }
 
 fn judge(rt: &impl System, job: &[u8], image: &[u8], card: &[u8], is_quiet: bool) {
@@ -39,84 +40,80 @@ fn judge(rt: &impl System, job: &[u8], image: &[u8], card: &[u8], is_quiet: bool
 }
 
 // Reads the image, last of the three: a HEX text is refused only where every file could be read.
-fn hold(rt: &impl System, job: &[u8], card: &[u8], much: usize) {
+fn hold(rt: &impl System, job: &[u8], card: &[u8], much: Much) {
     let mut image = [0u8; IMAGE_ROOM];
-    let got = images::load(
-        rt,
-        Stream::Out,
-        much,
-        2,
-        b"image|image.bin|job, image and card; an image in HEX is called image.hex there",
-        &mut image,
-    );
-    if got.is_read && much != telling::NOTHING {
-        let count = got.count;
-        judge(rt, job, &image[0..count], card, much == telling::LINE);
+    let file = Wanted {
+        argument: 2,
+        what: b"image",
+        name: b"image.bin",
+        all: b"job, image and card; an image in HEX is called image.hex there",
+    };
+    match images::load(rt, Stream::Out, much, file, &mut image) {
+        Ok(count) if much != Much::Nothing => judge(
+            rt,
+            job,
+            &image[0..count],
+            card,
+            much == Much::Line,
+        ),
+        _ => {}
     }
 }
 
 // Reads the card.
-fn suit(rt: &impl System, job: &[u8], much: usize) {
+fn suit(rt: &impl System, job: &[u8], much: Much) {
     let mut card = [0u8; CARD_ROOM];
-    let got = telling::load(
-        rt,
-        Stream::Out,
-        much,
-        3,
-        b"card|card.bin|job, image and card",
-        &mut card,
-    );
-    let count = got.count;
-    hold(rt, job, &card[0..count], after(much, got));
+    let file = Wanted {
+        argument: 3,
+        what: b"card",
+        name: b"card.bin",
+        all: b"job, image and card",
+    };
+    let came = telling::load(rt, Stream::Out, much, file, &mut card);
+    hold(rt, job, &card[0..came.unwrap_or(0)], after(much, came));
 }
 
 // Reads the job. All three files are asked for, whatever comes of one: a call without files then costs what a call
 // costs beside its work, and the figures take it off.
-fn check(rt: &impl System, much: usize) {
+fn check(rt: &impl System, much: Much) {
     let mut job = [0u8; JOB_ROOM];
-    let got = telling::load(
-        rt,
-        Stream::Out,
-        much,
-        1,
-        b"job|job.txt|job, image and card",
-        &mut job,
-    );
-    let count = got.count;
-    suit(rt, &job[0..count], after(much, got));
+    let file = Wanted {
+        argument: 1,
+        what: b"job",
+        name: b"job.txt",
+        all: b"job, image and card",
+    };
+    let came = telling::load(rt, Stream::Out, much, file, &mut job);
+    suit(rt, &job[0..came.unwrap_or(0)], after(much, came));
 }
 
-// Is there one word behind the names, and is it `quiet`? A longer word has no room, and counts as one of no bytes.
+// Is there one word behind the names, and is it `quiet`? A longer word has no room.
 fn is_quiet(rt: &impl System, count: usize) -> bool {
     let mut word = [0u8; WORD];
-    let length = files::argument(rt, NAMED, &mut word);
-    count == NAMED + 1 && length == WORD && compare::same_bytes(&word, b"quiet")
+    count == NAMED + 1 && files::argument(rt, NAMED, &mut word) == Some(WORD) && word == *b"quiet"
 }
 
 // How much the call asks for: words, where it names three files or none; the line, where it names three and adds the
 // word; nothing, where it is no call that the program knows.
-fn asked(rt: &impl System, count: usize) -> usize {
-    if count < 2 {
-        return telling::WORDS;
-    }
-    if count == NAMED {
-        return telling::WORDS;
-    }
-    if is_quiet(rt, count) {
-        telling::LINE
-    } else {
-        telling::NOTHING
+fn asked(rt: &impl System, count: usize) -> Much {
+    match count {
+        0 | 1 | NAMED => Much::Words,
+        _ if is_quiet(rt, count) => Much::Line,
+        _ => Much::Nothing,
     }
 }
 
 fn main(rt: HostRuntime) {
     let much = asked(&rt, files::arguments(&rt));
-    if much != telling::NOTHING {
+    if much != Much::Nothing {
         check(&rt, much);
         return;
     }
     telling::line(&rt, Stream::Out, Verdict::Refused(Refusal::File));
-    let words =
-        b"Name three files, the job, the image and the card, or none to take job.txt, image.bin and card.bin in this folder; behind three names, add the word quiet for the line alone.\n";
-    files::write(&rt, Stream::Err, words, words.len());
+    files::say(
+        &rt,
+        Stream::Err,
+        b"Name three files, the job, the image and the card, or none to take job.txt, image.bin and card.bin in this folder; behind three names, add the word quiet for the line alone.\n",
+        &[],
+    );
 }

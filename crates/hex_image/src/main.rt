@@ -3,15 +3,16 @@
 #![tactic(auto)]
 
 use board::Board;
-use files::{Stream, System};
+use files::{Stream, System, Wanted};
 use refusal::Refusal;
+use telling::Much;
 use verdict::Verdict;
 
 // The arguments of a call that names the file: the program's own name is the first.
 const NAMED: usize = 2;
 
 fn tell(rt: &impl System, words: &[u8]) {
-    files::write(rt, Stream::Err, words, words.len());
+    files::say(rt, Stream::Err, words, &[]);
 }
 
 // The image is bytes, which a shell cannot hold: whoever runs this program cannot see for us whether they arrived.
@@ -26,16 +27,15 @@ fn put(rt: &impl System, image: &[u8]) {
 
 fn make(rt: &impl System) {
     let mut image = [0u8; Board::LOGGER_FLASH];
-    let got = images::hex(
-        rt,
-        Stream::Err,
-        telling::WORDS,
-        1,
-        b"HEX text|image.hex|the HEX text",
-        &mut image,
-    );
-    let count = got.count;
-    put(rt, &image[0..count]);
+    let file = Wanted {
+        argument: 1,
+        what: b"HEX text",
+        name: b"image.hex",
+        all: b"the HEX text",
+    };
+    if let Ok(count) = images::hex(rt, Stream::Err, Much::Words, file, &mut image) {
+        put(rt, &image[0..count]);
+    }
 }
 
 fn main(rt: HostRuntime) {

@@ -3,15 +3,13 @@
 #![tactic(auto)]
 
 use board::Board;
-use files::{Stream, System};
+use files::{Stream, System, Wanted};
 use refusal::Refusal;
+use telling::Much;
 use verdict::Verdict;
 
 // One byte more than an image may have, so that a longer file shows as such.
 const IMAGE_ROOM: usize = Board::LOGGER_FLASH + 1;
-
-// Room for a sentence.
-const ROOM: usize = 512;
 
 // The arguments of a call that names the file: the program's own name is the first.
 const NAMED: usize = 2;
@@ -19,9 +17,7 @@ const NAMED: usize = 2;
 // The line that names a refusal, and a sentence for people with its numbers.
 fn refuse(rt: &impl System, why: Refusal, template: &[u8], numbers: &[usize]) {
     telling::line(rt, Stream::Err, Verdict::Refused(why));
-    let mut room = [0u8; ROOM];
-    let count = sentence::fill(template, numbers, b"", &mut room, 0);
-    files::write(rt, Stream::Err, &room, count);
+    files::say(rt, Stream::Err, template, numbers);
 }
 
 // Writes the text of an image.
@@ -41,16 +37,13 @@ fn perform(rt: &impl System, image: &[u8]) {
 // Reads the image.
 fn make(rt: &impl System) {
     let mut image = [0u8; IMAGE_ROOM];
-    let got = telling::load(
-        rt,
-        Stream::Err,
-        telling::WORDS,
-        1,
-        b"image|image.bin|the image",
-        &mut image,
-    );
-    if got.is_read {
-        let count = got.count;
+    let file = Wanted {
+        argument: 1,
+        what: b"image",
+        name: b"image.bin",
+        all: b"the image",
+    };
+    if let Ok(count) = telling::load(rt, Stream::Err, Much::Words, file, &mut image) {
         perform(rt, &image[0..count]);
     }
 }
@@ -64,6 +57,6 @@ fn main(rt: HostRuntime) {
         &rt,
         Refusal::File,
         b"Name one file, the image, or none to take image.bin in this folder.\n",
-        &[0],
+        &[],
     );
 }

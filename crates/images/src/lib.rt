@@ -4,63 +4,51 @@
 // into the lent image.
 #![tactic(auto)]
 
-ghost use Rattle.std.specs.Prelude.{◌≡◌, true, false, ◌≤◌, length};
-ghost use Rattle.files.specs.Came.{Came};
+ghost use Rattle.images.specs.Laid.{Laid};
 
-use files::{Fault, Got, Stream, System};
+use files::{Fault, Stream, System, Unread, Wanted};
 use refusal::Refusal;
+use telling::Much;
 use verdict::Verdict;
 
 // A byte more than a HEX text may have shows one that is too long.
 const TEXT_ROOM: usize = hexwords::MOST + 1;
 
+// Why there is no image: its file cannot be read, or its text in Intel HEX is refused. No byte of it counts.
+#[derive(Clone, Copy)]
+pub enum Unlaid {
+    File(Unread),
+    Text(Refusal),
+}
+
 // Is there no such file in the folder? No byte of it is read.
-fn lacks(rt: &impl System, argument: usize, file: &[u8]) -> bool {
-    let mut none = [0u8; 0];
-    let fault = files::read(rt, argument, file, &mut none).fault;
-    match fault {
-        Fault::Missing => true,
-        _ => false,
+fn lacks(rt: &impl System, file: Wanted) -> bool {
+    match files::read(rt, file, &mut [0u8; 0]) {
+        Ok(_) => false,
+        Err(unread) => unread.fault == Fault::Missing,
     }
 }
 
 // Does the argument name a file in Intel HEX? None does where there is no argument, or one that is too long for a path.
 fn is_named_hex(rt: &impl System, argument: usize) -> bool {
     let mut path = [0u8; files::PATH];
-    let length = files::argument(rt, argument, &mut path);
-    hexname::is_hex(&path[0..length])
+    match files::argument(rt, argument, &mut path) {
+        Some(length) => hexname::is_hex(&path[0..length]),
+        None => false,
+    }
 }
 
-// Without an argument for the image: does the folder have image.hex and no image.bin?
-fn is_found_hex(rt: &impl System, argument: usize) -> bool {
-    if argument < files::arguments(rt) {
-        return false;
-    }
-    if lacks(rt, argument, b"image|image.hex|all files") {
-        return false;
-    }
-    lacks(rt, argument, b"image|image.bin")
-}
-
-// A text that was read and gives no image.
-fn refused() -> Got
-    ensures { (result.is_opened ≡ true) × (result.is_read ≡ false) × (result.count ≡ 0) }
-{
-    Got {
-        is_named: false,
-        is_opened: true,
-        is_read: false,
-        count: 0,
-        fault: Fault::None,
-    }
+// Without an argument for the image: does the folder have the text and not the image?
+fn is_found_hex(rt: &impl System, text: Wanted, image: Wanted) -> bool {
+    files::arguments(rt) <= image.argument && !lacks(rt, text) && lacks(rt, image)
 }
 
 // Refuses the text: the line goes to `to`, a sentence to standard error.
-fn refuse(rt: &impl System, to: Stream, much: usize, why: Refusal, text: &[u8]) {
-    if telling::LINE <= much {
+fn refuse(rt: &impl System, to: Stream, much: Much, why: Refusal, text: &[u8]) {
+    if much != Much::Nothing {
         telling::line(rt, to, Verdict::Refused(why));
     }
-    if telling::WORDS <= much {
+    if much == Much::Words {
         hexwords::explain(rt, why, text);
     }
 }
@@ -74,20 +62,20 @@ fn read(text: &[u8], image: &mut [u8]) -> Result<usize, Refusal> {
 }
 
 // Likewise, and a refusal is said.
-fn lay(rt: &impl System, to: Stream, much: usize, text: &[u8], image: &mut [u8]) -> Got
-    ensures { (result.count ≤ length image.new) × (result.is_opened ≡ true) × (result.is_read ≡ false → result.count ≡ 0) }
+fn lay(
+    rt: &impl System,
+    to: Stream,
+    much: Much,
+    text: &[u8],
+    image: &mut [u8],
+) -> Result<usize, Unlaid>
+    ensures { Laid result image.old image.new }
 {
     match read(text, image) {
-        Ok(count) => Got {
-            is_named: false,
-            is_opened: true,
-            is_read: true,
-            count: buffer::least(count, image.len()),
-            fault: Fault::None,
-        },
+        Ok(count) => Ok(count.min(image.len())),
         Err(why) => {
             refuse(rt, to, much, why, text);
-            refused()
+            Err(Unlaid::Text(why))
         }
     }
 }
@@ -97,38 +85,38 @@ fn lay(rt: &impl System, to: Stream, much: usize, text: &[u8], image: &mut [u8])
 pub fn hex(
     rt: &impl System,
     to: Stream,
-    much: usize,
-    argument: usize,
-    file: &[u8],
+    much: Much,
+    file: Wanted,
     image: &mut [u8],
-) -> Got
-    ensures { Came result image.old image.new }
+) -> Result<usize, Unlaid>
+    ensures { Laid result image.old image.new }
 {
     let mut text = [0u8; TEXT_ROOM];
-    let got = telling::load(rt, to, much, argument, file, &mut text);
-    if !got.is_read {
-        return got;
-    }
-    let count = got.count;
+    let count = telling::load(rt, to, much, file, &mut text).map_err(Unlaid::File)?;
     lay(rt, to, much, &text[0..count], image)
 }
 
-// Reads an image, or refuses and says as much as is asked for.
+// Reads an image, or refuses and says as much as is asked for. Where the folder has image.hex in the image's place, that
+// is read.
 pub fn load(
     rt: &impl System,
     to: Stream,
-    much: usize,
-    argument: usize,
-    file: &[u8],
+    much: Much,
+    file: Wanted,
     image: &mut [u8],
-) -> Got
-    ensures { Came result image.old image.new }
+) -> Result<usize, Unlaid>
+    ensures { Laid result image.old image.new }
 {
-    if is_named_hex(rt, argument) {
-        return hex(rt, to, much, argument, file, image);
+    let text = Wanted {
+        name: b"image.hex",
+        all: b"all files",
+        ..file
+    };
+    if is_named_hex(rt, file.argument) {
+        return hex(rt, to, much, file, image);
     }
-    if is_found_hex(rt, argument) {
-        return hex(rt, to, much, argument, b"image|image.hex|all files", image);
+    if is_found_hex(rt, text, file) {
+        return hex(rt, to, much, text, image);
     }
-    telling::load(rt, to, much, argument, file, image)
+    telling::load(rt, to, much, file, image).map_err(Unlaid::File)
 }

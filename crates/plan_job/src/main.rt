@@ -5,7 +5,8 @@
 mod refuse;
 
 use board::Board;
-use files::{Stream, System};
+use files::{Stream, System, Wanted};
+use telling::Much;
 
 // One byte more than an image and a card may have, so that a longer file shows as such.
 const IMAGE_ROOM: usize = Board::LOGGER_FLASH + 1;
@@ -27,16 +28,13 @@ fn perform(rt: &impl System, image: &[u8], card: &[u8]) {
 // Reads the image for a board's card, the last of the two: a HEX text is refused only where both files could be read.
 fn make(rt: &impl System, card: &[u8]) {
     let mut image = [0u8; IMAGE_ROOM];
-    let got = images::load(
-        rt,
-        Stream::Err,
-        telling::WORDS,
-        1,
-        b"image|image.bin|image and card; an image in HEX is called image.hex there",
-        &mut image,
-    );
-    if got.is_read {
-        let count = got.count;
+    let file = Wanted {
+        argument: 1,
+        what: b"image",
+        name: b"image.bin",
+        all: b"image and card; an image in HEX is called image.hex there",
+    };
+    if let Ok(count) = images::load(rt, Stream::Err, Much::Words, file, &mut image) {
         perform(rt, &image[0..count], card);
     }
 }
@@ -44,16 +42,13 @@ fn make(rt: &impl System, card: &[u8]) {
 // Reads the card.
 fn suit(rt: &impl System) {
     let mut card = [0u8; CARD_ROOM];
-    let got = telling::load(
-        rt,
-        Stream::Err,
-        telling::WORDS,
-        2,
-        b"card|card.bin|image and card",
-        &mut card,
-    );
-    if got.is_read {
-        let count = got.count;
+    let file = Wanted {
+        argument: 2,
+        what: b"card",
+        name: b"card.bin",
+        all: b"image and card",
+    };
+    if let Ok(count) = telling::load(rt, Stream::Err, Much::Words, file, &mut card) {
         make(rt, &card[0..count]);
     }
 }

@@ -4,9 +4,6 @@ use files::{Stream, System};
 use refusal::Refusal;
 use verdict::Verdict;
 
-// Room for a sentence.
-const ROOM: usize = 512;
-
 // The line.
 fn name(rt: &impl System, why: Refusal) {
     telling::line(rt, Stream::Err, Verdict::Refused(why));
@@ -14,9 +11,7 @@ fn name(rt: &impl System, why: Refusal) {
 
 // A sentence with its numbers.
 fn tell(rt: &impl System, template: &[u8], numbers: &[usize]) {
-    let mut room = [0u8; ROOM];
-    let count = sentence::fill(template, numbers, b"", &mut room, 0);
-    files::write(rt, Stream::Err, &room, count);
+    files::say(rt, Stream::Err, template, numbers);
 }
 
 // Arguments that are not two files.
@@ -25,7 +20,7 @@ pub(crate) fn arguments(rt: &impl System) {
     tell(
         rt,
         b"Name two files, the image and the card, or none to take image.bin and card.bin in this folder.\n",
-        &[0],
+        &[],
     );
 }
 
@@ -54,14 +49,9 @@ fn card(rt: &impl System, size: usize) {
 
 // The lowest page that the word write-protects, or `count` where none below is.
 fn first_protected(word: u32, count: usize) -> usize {
-    let mut page = 0;
-    while page < count {
-        if protection::write_protected(word, page) {
-            return page;
-        }
-        page += 1;
-    }
-    page
+    (0..count)
+        .find(|page| protection::write_protected(word, *page))
+        .unwrap_or(count)
 }
 
 // A page of the image that keeps its bytes.
@@ -79,7 +69,7 @@ fn protected(rt: &impl System, image: &[u8], card: &[u8]) {
         tell(
             rt,
             b"The card is read-protected (option byte 0 is not AA), and a board with it takes no erase and no write. Lift that on the board, which erases the flash, then plan again with the card that the board has then.\n",
-            &[0],
+            &[],
         );
         return;
     }
@@ -97,6 +87,6 @@ pub(crate) fn plan(rt: &impl System, why: Refusal, wanted: &[u8], options: &[u8]
         Refusal::Image => image(rt, wanted.len()),
         Refusal::Card => card(rt, options.len()),
         Refusal::Protected => protected(rt, wanted, options),
-        _ => tell(rt, b"The job has no room here.\n", &[0]),
+        _ => tell(rt, b"The job has no room here.\n", &[]),
     }
 }

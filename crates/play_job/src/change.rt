@@ -1,34 +1,45 @@
 // Where two memories differ, in words.
 use board::{Board, Place};
 
-// What stands before a part that differs, as the sentence counts it: in the line of an event, and on a line of its own.
-pub const INLINE: usize = 0;
+// What stands before a part that differs, in the order of the sentence's parts: in the line of an event, and on a line
+// of its own.
+#[derive(Clone, Copy)]
+pub(crate) enum Lead {
+    Inline,
+    Alone,
+}
 
-pub const ALONE: usize = 1;
+// A part of memory, likewise.
+#[derive(Clone, Copy)]
+enum Part {
+    Flash,
+    Ram,
+    Options,
+}
 
-// A part of memory, as the sentence counts it.
-fn name(region: Place) -> usize {
-    match region {
-        Place::Flash(_) => 0,
-        Place::Ram(_) => 1,
-        _ => 2,
+impl Part {
+    fn of(region: Place) -> Part {
+        match region {
+            Place::Flash(_) => Part::Flash,
+            Place::Ram(_) => Part::Ram,
+            Place::Options(_) | Place::Outside => Part::Options,
+        }
     }
 }
 
 // Every part that differs, with the first place that does.
-pub(crate) fn list(old: &[u8], new: &[u8], lead: usize, out: &mut [u8], at: usize) -> usize {
+pub(crate) fn list(old: &[u8], new: &[u8], lead: Lead, out: &mut [u8], at: usize) -> usize {
     let board = Board::LOGGER;
     let all = board.memory_bytes();
     let mut end = at;
     let mut place = compare::first_change(old, new, 0, all);
     while place < all {
         let stretch = board.stretch_at(place);
-        let region = stretch.region;
         end = sentence::fill(
             b"[; |\n][page #|RAM|the option block] differs from @ on",
             &[
-                lead,
-                name(region),
+                lead as usize,
+                Part::of(stretch.region) as usize,
                 board.page_at(place),
                 stretch.address as usize,
             ],

@@ -7,105 +7,122 @@ use request::{Request, Setup};
 // Room for the longest name of a request, or of a mode and a status, and a bar behind each.
 const NAMES_ROOM: usize = 64;
 
-// A part of a sentence, as the sentence counts its parts, and the number in it.
+// How much is said of what is asked for, in the order of the sentence's parts: an Attach has no name, and a request
+// without a block has a name only.
 #[derive(Clone, Copy)]
-struct Clause {
-    part: usize,
-    number: usize,
+enum Extent {
+    Attach,
+    Name,
+    Block,
 }
 
-// What a request is for: whether it has a block, and the parts that say what is sent or read.
+// What a DNLOAD is for, likewise.
+#[derive(Clone, Copy)]
+enum Order {
+    Untold,
+    Leave,
+    Nothing,
+    MassErase,
+    ReadUnprotect,
+    SetPointer,
+    ErasePage,
+    Write,
+}
+
+// What an UPLOAD reads, likewise; block 1 has no words.
+#[derive(Clone, Copy)]
+enum Source {
+    Untold,
+    Commands,
+    Memory,
+}
+
+// What an event is for, and the address that a command has, or 0.
 #[derive(Clone, Copy)]
 struct Aim {
-    extent: usize,
-    download: Clause,
-    upload: usize,
+    extent: Extent,
+    order: Order,
+    address: u32,
+    source: Source,
 }
 
-const NOTHING: Clause = Clause { part: 0, number: 0 };
-
-// What a DNLOAD without a command is for: to leave, or nothing; block 1 has no words.
-fn idle(setup: Setup) -> usize {
-    if setup.length == 0 {
-        return 1;
+// Nothing but a name, or not even that.
+fn bare(extent: Extent) -> Aim {
+    Aim {
+        extent,
+        order: Order::Untold,
+        address: 0,
+        source: Source::Untold,
     }
-    if setup.value == 0 {
-        return 2;
-    }
-    0
 }
 
-// What a DNLOAD is for.
-fn download(setup: Setup, pending: Pending) -> Clause {
+// A DNLOAD without a command: to leave, or nothing; block 1 has no words.
+fn idle(setup: Setup) -> Order {
+    match (setup.length, setup.value) {
+        (0, _) => Order::Leave,
+        (_, 0) => Order::Nothing,
+        _ => Order::Untold,
+    }
+}
+
+// What a DNLOAD is for, and the address that it has, or 0.
+fn order_of(setup: Setup, pending: Pending) -> (Order, u32) {
     match pending {
-        Pending::Nothing => Clause {
-            part: idle(setup),
-            number: 0,
-        },
-        Pending::MassErase => Clause { part: 3, number: 0 },
-        Pending::ReadUnprotect => Clause { part: 4, number: 0 },
-        Pending::SetPointer(address) => Clause {
-            part: 5,
-            number: address as usize,
-        },
-        Pending::ErasePage(address) => Clause {
-            part: 6,
-            number: address as usize,
-        },
-        Pending::Write { block: _, count: _ } => Clause { part: 7, number: 0 },
+        Pending::Nothing => (idle(setup), 0),
+        Pending::MassErase => (Order::MassErase, 0),
+        Pending::ReadUnprotect => (Order::ReadUnprotect, 0),
+        Pending::SetPointer(address) => (Order::SetPointer, address),
+        Pending::ErasePage(address) => (Order::ErasePage, address),
+        Pending::Write { .. } => (Order::Write, 0),
     }
 }
 
-// An Attach has no name, and a request without a block has a name only.
-fn bare(event: Event) -> Aim {
-    match event {
-        Event::Attach => Aim {
-            extent: 0,
-            download: NOTHING,
-            upload: 0,
-        },
-        Event::Request => Aim {
-            extent: 1,
-            download: NOTHING,
-            upload: 0,
-        },
+fn source_of(block: u16) -> Source {
+    match block {
+        0 => Source::Commands,
+        1 => Source::Untold,
+        _ => Source::Memory,
     }
 }
 
-// What an event is for. The parts of an UPLOAD go by its block.
+// What an event is for.
 fn aim_of(asked: Asked) -> Aim {
-    let event = asked.event;
-    let setup = asked.setup;
-    let pending = asked.pending;
-    let request = setup.request();
-    match request {
-        Request::Download => Aim {
-            extent: 2,
-            download: download(setup, pending),
-            upload: 0,
+    match (asked.setup.request(), asked.event) {
+        (Request::Download, _) => {
+            let (order, address) = order_of(asked.setup, asked.pending);
+            Aim {
+                order,
+                address,
+                ..bare(Extent::Block)
+            }
+        }
+        (Request::Upload, _) => Aim {
+            source: source_of(asked.setup.value),
+            ..bare(Extent::Block)
         },
-        Request::Upload => Aim {
-            extent: 2,
-            download: NOTHING,
-            upload: setup.value as usize + 1,
-        },
-        _ => bare(event),
+        (_, Event::Attach) => bare(Extent::Attach),
+        (_, Event::Request) => bare(Extent::Name),
     }
 }
 
-fn answered(answer: Answer) -> Clause {
+// What became of an event, in the order of the sentence's parts.
+#[derive(Clone, Copy)]
+enum Told {
+    Accepted,
+    Reply,
+    Stall,
+    Silent,
+    Refused,
+}
+
+// Likewise, and the number that belongs to it, or 0.
+fn answered(answer: Answer) -> (Told, usize) {
     match answer {
-        Answer::Accepted => NOTHING,
-        Answer::Reply(count) => Clause {
-            part: 1,
-            number: count,
-        },
-        Answer::Stall => Clause { part: 2, number: 0 },
-        Answer::Silent => Clause { part: 3, number: 0 },
-        Answer::Refused(why) => Clause {
-            part: 4,
-            number: why.number() as usize,
-        },
+        Answer::Accepted => (Told::Accepted, 0),
+        Answer::Reply(count) => (Told::Reply, count),
+        Answer::Stall => (Told::Stall, 0),
+        Answer::Silent => (Told::Silent, 0),
+        Answer::Refused(why) => (Told::Refused, why.number() as usize),
     }
 }
 
@@ -114,23 +131,23 @@ pub(crate) fn request(number: usize, pointer: u32, asked: Asked, out: &mut [u8])
     let mut name = [0u8; NAMES_ROOM];
     let setup = asked.setup;
     let aim = aim_of(asked);
-    let command = aim.download;
+    let address = aim.address as usize;
     let from = access::block_address(setup.value, pointer) as usize;
     let end = words::request(setup.request(), &mut name, 0);
     append::say(b"|", &mut name, end);
     sentence::fill(
-        b"#. [attach|$][||, block #, length #][|, leave|, no command|, mass erase|, read unprotect|, set pointer @|, erase page of @|, write to @][|, list commands||, read from @]",
+        b"#. [attach|$][||, block #, length #][|, leave|, no command|, mass erase|, read unprotect|, set pointer @|, erase page of @|, write to @][|, list commands|, read from @]",
         &[
             number,
-            aim.extent,
-            aim.extent,
+            aim.extent as usize,
+            aim.extent as usize,
             setup.value as usize,
             setup.length as usize,
-            command.part,
-            command.number,
-            command.number,
+            aim.order as usize,
+            address,
+            address,
             from,
-            aim.upload,
+            aim.source as usize,
             from,
         ],
         &name,
@@ -141,8 +158,7 @@ pub(crate) fn request(number: usize, pointer: u32, asked: Asked, out: &mut [u8])
 
 // The names of the device's mode and status, with a bar behind each.
 fn names(device: Device, out: &mut [u8]) {
-    let mode = device.mode;
-    let end = words::mode(mode, out, 0);
+    let end = words::mode(device.mode, out, 0);
     let end = append::say(b"|", out, end);
     let end = words::status(device.status, out, end);
     append::say(b"|", out, end);
@@ -151,12 +167,11 @@ fn names(device: Device, out: &mut [u8]) {
 // What became of an event.
 pub(crate) fn outcome(stepped: Stepped, out: &mut [u8], at: usize) -> usize {
     let mut texts = [0u8; NAMES_ROOM];
-    let answer = stepped.answer;
-    let told = answered(answer);
+    let (told, number) = answered(stepped.answer);
     names(stepped.device, &mut texts);
     sentence::fill(
         b": [accepted|reply of length #|stall|silent|refused, #]; $, $",
-        &[told.part, told.number, told.number],
+        &[told as usize, number, number],
         &texts,
         out,
         at,

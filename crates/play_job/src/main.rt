@@ -10,8 +10,9 @@ mod play;
 mod refuse;
 
 use board::Board;
-use files::{Stream, System};
+use files::{Stream, System, Wanted};
 use refusal::Refusal;
+use telling::Much;
 
 // One byte more than a job and a board may have, so that a longer file shows as such.
 const TEXT_ROOM: usize = text::LIMIT + 1;
@@ -40,46 +41,43 @@ fn perform(rt: &impl System, text: &[u8], board: &[u8]) {
     }
 }
 
-// Reads both files, the job first.
-fn load_and_play(rt: &impl System) {
-    let mut text = [0u8; TEXT_ROOM];
+// Reads the board for a job's text, the last of the two.
+fn load_board(rt: &impl System, text: &[u8]) {
     let mut board = [0u8; BOARD_ROOM];
-    let job = telling::load(
-        rt,
-        Stream::Out,
-        telling::WORDS,
-        1,
-        b"job|job.txt|job and board",
-        &mut text,
-    );
-    if !job.is_read {
-        return;
+    let file = Wanted {
+        argument: 2,
+        what: b"board",
+        name: b"board.bin",
+        all: b"job and board",
+    };
+    if let Ok(count) = telling::load(rt, Stream::Out, Much::Words, file, &mut board) {
+        perform(rt, text, &board[0..count]);
     }
-    let memory = telling::load(
-        rt,
-        Stream::Out,
-        telling::WORDS,
-        2,
-        b"board|board.bin|job and board",
-        &mut board,
-    );
-    if !memory.is_read {
-        return;
+}
+
+// Reads the job.
+fn load_job(rt: &impl System) {
+    let mut text = [0u8; TEXT_ROOM];
+    let file = Wanted {
+        argument: 1,
+        what: b"job",
+        name: b"job.txt",
+        all: b"job and board",
+    };
+    if let Ok(count) = telling::load(rt, Stream::Out, Much::Words, file, &mut text) {
+        load_board(rt, &text[0..count]);
     }
-    let job_bytes = job.count;
-    let board_bytes = memory.count;
-    perform(rt, &text[0..job_bytes], &board[0..board_bytes]);
 }
 
 fn main(rt: HostRuntime) {
     if files::arguments(&rt) <= NAMED {
-        load_and_play(&rt);
+        load_job(&rt);
         return;
     }
     refuse::say(
         &rt,
         Refusal::File,
         b"Name two files, the job and the board, or none to take job.txt and board.bin in this folder.\n",
-        &[0],
+        &[],
     );
 }

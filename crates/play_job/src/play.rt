@@ -1,7 +1,5 @@
 // The events of a job, one after the other on one board.
-ghost use Rattle.std.specs.Prelude.{◌≡◌, length};
-ghost use Rattle.board.specs.Layout.{logger, memory_bytes};
-
+use crate::change::Lead;
 use crate::{change, event, refuse};
 use board::Board;
 use device::Device;
@@ -32,7 +30,7 @@ fn print(
     let mut line = [0u8; LINE_ROOM];
     let end = event::request(number, pointer, asked, &mut line);
     let end = event::outcome(stepped, &mut line, end);
-    let end = change::list(old, new, change::INLINE, &mut line, end);
+    let end = change::list(old, new, Lead::Inline, &mut line, end);
     let end = append::say(b"\n", &mut line, end);
     files::write(rt, Stream::Out, &line, end);
 }
@@ -43,33 +41,25 @@ fn turn(
     device: Device,
     number: usize,
     piece: &[u8],
-    memory: &mut [u8],
+    memory: &mut [u8; Board::LOGGER_MEMORY],
     block: &mut [u8],
     reply: &mut [u8],
-) -> Device
-    requires { length memory.old ≡ memory_bytes logger }
-{
-    let mut before = [0u8; Board::LOGGER_MEMORY];
-    buffer::put(&mut before, 0, memory);
+) -> Device {
+    let before = *memory;
     let asked = player::asks(piece);
     let stepped = player::step(device, piece, memory, block, reply);
     print(rt, number, device.pointer, asked, stepped, &before, memory);
     stepped.device
 }
 
-// Whether something differs, as a number that picks.
-fn some(differs: bool) -> usize {
-    if differs { 1 } else { 0 }
-}
-
 // Prints the device and the differences that the whole job made.
 fn conclude(rt: &impl System, number: usize, device: Device, old: &[u8], new: &[u8]) {
     let mut line = [0u8; LINE_ROOM];
     let end = event::sum_up(number, device, &mut line);
-    let listed = change::list(old, new, change::ALONE, &mut line, end);
+    let listed = change::list(old, new, Lead::Alone, &mut line, end);
     let end = sentence::fill(
         b"\n[nothing differs from|all else is as] before\n",
-        &[some(listed != end)],
+        &[usize::from(listed != end)],
         b"",
         &mut line,
         listed,
@@ -94,30 +84,28 @@ fn refuse_size(rt: &impl System) {
 
 // Plays packed events on a board that was just attached, if it is one.
 pub(crate) fn play(rt: &impl System, packed: &[u8], board: &[u8]) {
-    if board.len() != Board::LOGGER_MEMORY {
+    let Ok(mut memory) = <[u8; Board::LOGGER_MEMORY]>::try_from(board) else {
         refuse_size(rt);
         return;
-    }
-    let mut memory = [0u8; Board::LOGGER_MEMORY];
+    };
     let mut block = [0u8; TRANSFER];
     let mut reply = [0u8; TRANSFER];
-    buffer::put(&mut memory, 0, board);
     let mut device = Device::start(Board::LOGGER);
     let mut number = 0;
     let mut rest = packed;
     while let Some(size) = packed::piece_length(rest) {
-        let (event, behind) = rest.split_at(size);
+        let (piece, others) = rest.split_at(size);
         number += 1;
         device = turn(
             rt,
             device,
             number,
-            event,
+            piece,
             &mut memory,
             &mut block,
             &mut reply,
         );
-        rest = behind;
+        rest = others;
     }
     conclude(rt, number, device, board, &memory);
 }

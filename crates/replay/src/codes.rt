@@ -2,122 +2,95 @@
 use device::Pending;
 use mode::Mode;
 
-// A mode is its number on the wire; two have none there.
-const LEFT: u8 = 0;
-
+// A mode is its number on the wire; two have none there, and are 0 and this number.
 const REBOOTING: u8 = 1;
-
-const IDLE: u8 = 2;
-
-const DOWNLOAD_SYNC: u8 = 3;
-
-const DOWNLOAD_BUSY: u8 = 4;
-
-const DOWNLOAD_IDLE: u8 = 5;
-
-const MANIFEST_SYNC: u8 = 6;
-
-const UPLOAD_IDLE: u8 = 9;
-
-const ERROR: u8 = 10;
-
-// The kinds of pending command.
-const NOTHING: u8 = 0;
-
-const SET_POINTER: u8 = 1;
-
-const ERASE_PAGE: u8 = 2;
-
-const MASS_ERASE: u8 = 3;
-
-const READ_UNPROTECT: u8 = 4;
-
-const WRITE: u8 = 5;
-
-// A pending command in numbers, 0 where it has none.
-#[derive(Clone, Copy)]
-pub struct Spelled {
-    pub kind: u8,
-    pub address: u32,
-    pub block: u16,
-    pub count: u16,
-}
 
 pub(crate) fn mode(code: u8) -> Mode {
     match code {
-        LEFT => Mode::Left,
-        IDLE => Mode::Idle,
-        DOWNLOAD_SYNC => Mode::DownloadSync,
-        DOWNLOAD_BUSY => Mode::DownloadBusy,
-        DOWNLOAD_IDLE => Mode::DownloadIdle,
-        MANIFEST_SYNC => Mode::ManifestSync,
-        UPLOAD_IDLE => Mode::UploadIdle,
-        ERROR => Mode::Error,
+        0 => Mode::Left,
+        2 => Mode::Idle,
+        3 => Mode::DownloadSync,
+        4 => Mode::DownloadBusy,
+        5 => Mode::DownloadIdle,
+        6 => Mode::ManifestSync,
+        9 => Mode::UploadIdle,
+        10 => Mode::Error,
         _ => Mode::Rebooting,
     }
 }
 
 pub(crate) fn code(mode: Mode) -> u8 {
-    match mode {
-        Mode::Left => LEFT,
-        Mode::Rebooting => REBOOTING,
-        Mode::Idle => IDLE,
-        Mode::DownloadSync => DOWNLOAD_SYNC,
-        Mode::DownloadBusy => DOWNLOAD_BUSY,
-        Mode::DownloadIdle => DOWNLOAD_IDLE,
-        Mode::ManifestSync => MANIFEST_SYNC,
-        Mode::UploadIdle => UPLOAD_IDLE,
-        Mode::Error => ERROR,
+    if mode == Mode::Rebooting {
+        REBOOTING
+    } else {
+        mode.wire()
     }
 }
 
-pub(crate) fn pending(s: Spelled) -> Pending {
-    let kind = s.kind;
-    match kind {
-        SET_POINTER => Pending::SetPointer(s.address),
-        ERASE_PAGE => Pending::ErasePage(s.address),
-        MASS_ERASE => Pending::MassErase,
-        READ_UNPROTECT => Pending::ReadUnprotect,
-        WRITE => Pending::Write {
-            block: s.block,
-            count: s.count,
-        },
-        _ => Pending::Nothing,
+// The kinds of pending command, in the order of their numbers.
+#[derive(Clone, Copy)]
+pub(crate) enum Kind {
+    Nothing,
+    SetPointer,
+    ErasePage,
+    MassErase,
+    ReadUnprotect,
+    Write,
+}
+
+impl From<u8> for Kind {
+    fn from(code: u8) -> Kind {
+        match code {
+            1 => Kind::SetPointer,
+            2 => Kind::ErasePage,
+            3 => Kind::MassErase,
+            4 => Kind::ReadUnprotect,
+            5 => Kind::Write,
+            _ => Kind::Nothing,
+        }
     }
 }
 
-pub(crate) fn spell(pending: Pending) -> Spelled {
-    let none = Spelled {
-        kind: NOTHING,
-        address: 0,
-        block: 0,
-        count: 0,
-    };
-    match pending {
-        Pending::Nothing => none,
-        Pending::SetPointer(address) => Spelled {
-            kind: SET_POINTER,
+// A pending command in numbers, 0 where it has none.
+#[derive(Clone, Copy)]
+pub(crate) struct Spelled {
+    pub kind: Kind,
+    pub address: u32,
+    pub block: u16,
+    pub count: u16,
+}
+
+impl From<Spelled> for Pending {
+    fn from(s: Spelled) -> Pending {
+        match s.kind {
+            Kind::Nothing => Pending::Nothing,
+            Kind::SetPointer => Pending::SetPointer(s.address),
+            Kind::ErasePage => Pending::ErasePage(s.address),
+            Kind::MassErase => Pending::MassErase,
+            Kind::ReadUnprotect => Pending::ReadUnprotect,
+            Kind::Write => Pending::Write {
+                block: s.block,
+                count: s.count,
+            },
+        }
+    }
+}
+
+impl From<Pending> for Spelled {
+    fn from(pending: Pending) -> Spelled {
+        let (kind, address, block, count) = match pending {
+            Pending::Nothing => (Kind::Nothing, 0, 0, 0),
+            Pending::SetPointer(address) => (Kind::SetPointer, address, 0, 0),
+            Pending::ErasePage(address) => (Kind::ErasePage, address, 0, 0),
+            Pending::MassErase => (Kind::MassErase, 0, 0, 0),
+            Pending::ReadUnprotect => (Kind::ReadUnprotect, 0, 0, 0),
+            Pending::Write { block, count } => (Kind::Write, 0, block, count),
+        };
+        Spelled {
+            kind,
             address,
-            ..none
-        },
-        Pending::ErasePage(address) => Spelled {
-            kind: ERASE_PAGE,
-            address,
-            ..none
-        },
-        Pending::MassErase => Spelled {
-            kind: MASS_ERASE,
-            ..none
-        },
-        Pending::ReadUnprotect => Spelled {
-            kind: READ_UNPROTECT,
-            ..none
-        },
-        Pending::Write { block, count } => Spelled {
-            kind: WRITE,
-            address: 0,
             block,
             count,
-        },
+        }
     }
 }

@@ -11,7 +11,7 @@ mod scene;
 
 use board::Board;
 use device::Device;
-use feed::Feed;
+use record::Kind;
 use scene::Lending;
 
 // Room for a record with the longest request behind it, and for every buffer a byte longer than is right.
@@ -23,16 +23,15 @@ const MEMORY_ROOM: usize = Board::LOGGER_MEMORY + 1;
 fn happen(
     rt: &impl Print,
     device: Device,
-    kind: u8,
+    kind: Kind,
     request: &[u8],
     memory: &mut [u8],
     block: &mut [u8],
     reply: &mut [u8],
 ) -> Device {
-    if record::events(kind) == 0 {
+    let Some(event) = kind.event() else {
         return device;
-    }
-    let event = record::event(kind);
+    };
     let stepped = loader::step(device, event, request, memory, block, reply);
     output::print(rt, stepped, memory, block, reply);
     stepped.device
@@ -79,39 +78,21 @@ fn turn(
     Lending { device, ..lending }
 }
 
-// How many events there were.
-fn replay(
-    rt: &impl Print,
-    file: &mut Feed,
-    tape: &mut [u8],
-    memory: &mut [u8],
-    block: &mut [u8],
-    reply: &mut [u8],
-) -> usize {
-    let mut lending = scene::empty();
-    let mut events = 0;
-    let mut count = 0;
-    while count < feed::MOST && record::next(file, tape) {
-        lending = turn(rt, lending, tape, memory, block, reply);
-        events += record::events(lending.kind);
-        count += 1;
-    }
-    events
-}
-
 fn main(rt: HostRuntime) {
     let mut tape = [0u8; TAPE_ROOM];
     let mut memory = [0u8; MEMORY_ROOM];
     let mut block = [0u8; scene::OTHERS];
     let mut reply = [0u8; scene::OTHERS];
     let mut file = feed::open(&rt);
-    let events = replay(
-        &rt,
-        &mut file,
-        &mut tape,
-        &mut memory,
-        &mut block,
-        &mut reply,
-    );
+    let mut lending = scene::empty();
+    let mut events = 0usize;
+    feed::turns(|| {
+        let is_there = record::next(&mut file, &mut tape);
+        if is_there {
+            lending = turn(&rt, lending, &tape, &mut memory, &mut block, &mut reply);
+            events = events.saturating_add(usize::from(lending.kind.event().is_some()));
+        }
+        is_there
+    });
     feed::finish(&rt, file, b"events #\n", events);
 }

@@ -1,50 +1,37 @@
 // The line that an event prints: fields of fixed width in capital hexadecimal, parted by a space.
 use crate::codes;
+use crate::codes::Spelled;
 use buffer::byte_at;
 use loader::{Answer, Stepped};
 use vectors::digest;
 
-// An answer in numbers: which it is, and the reply's length or the refusal's number.
+// Which answer it is, in the order of the letters.
 #[derive(Clone, Copy)]
-struct Spoken {
-    letter: usize,
-    value: usize,
+enum Letter {
+    Accepted,
+    Payload,
+    Stall,
+    Nothing,
+    Refused,
 }
 
-fn numbers_of(answer: Answer) -> Spoken {
+// An answer in numbers: which it is, and the reply's length or the refusal's number.
+fn numbers_of(answer: Answer) -> (Letter, usize) {
     match answer {
-        Answer::Accepted => Spoken {
-            letter: 0,
-            value: 0,
-        },
-        Answer::Reply(n) => Spoken {
-            letter: 1,
-            value: n,
-        },
-        Answer::Stall => Spoken {
-            letter: 2,
-            value: 0,
-        },
-        Answer::Silent => Spoken {
-            letter: 3,
-            value: 0,
-        },
-        Answer::Refused(why) => Spoken {
-            letter: 4,
-            value: why.number() as usize,
-        },
+        Answer::Accepted => (Letter::Accepted, 0),
+        Answer::Reply(n) => (Letter::Payload, n),
+        Answer::Stall => (Letter::Stall, 0),
+        Answer::Silent => (Letter::Nothing, 0),
+        Answer::Refused(why) => (Letter::Refused, why.number() as usize),
     }
 }
 
 // The answer and the device, in front of the line.
 fn print_device(rt: &impl Print, stepped: Stepped) {
-    let answer = stepped.answer;
     let device = stepped.device;
-    let spoken = numbers_of(answer);
-    let mode = device.mode;
-    let pending = device.pending;
+    let (letter, value) = numbers_of(stepped.answer);
     let p = device.pointer as usize;
-    let command = codes::spell(pending);
+    let command = Spelled::from(device.pending);
     let a = command.address as usize;
     let n = command.block as usize;
     let c = command.count as usize;
@@ -52,10 +39,10 @@ fn print_device(rt: &impl Print, stepped: Stepped) {
         rt,
         b"[A|P|S|N|R] %% % % %%%% # %%%% %% %% ",
         &[
-            spoken.letter,
-            spoken.value / 256,
-            spoken.value,
-            codes::code(mode) as usize,
+            letter as usize,
+            value / 256,
+            value,
+            codes::code(device.mode) as usize,
             device.status as usize,
             p / 16777216,
             p / 65536,

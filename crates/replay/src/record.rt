@@ -1,26 +1,52 @@
 // The records of the vector file, and what they say. A record stands in front of the tape, its request behind it.
-ghost use Rattle.std.specs.Prelude.{◌≤◌};
-
 use crate::codes;
 use crate::codes::Spelled;
 use buffer::byte_at;
-use device::Device;
+use device::{Device, Pending};
 use feed::Feed;
 use loader::Event;
 use numbers::{pair, quad};
 
 pub const SIZE: usize = 48;
 
-// The kinds of record.
-pub const SCENE: u8 = 0;
+// The kinds of record, in the order of their numbers; a kind that no record has does nothing.
+#[derive(Clone, Copy, PartialEq, Eq)]
+pub enum Kind {
+    Scene,
+    Device,
+    Attach,
+    Request,
+    Poke,
+    Other,
+}
 
-pub const DEVICE: u8 = 1;
+impl From<u8> for Kind {
+    fn from(code: u8) -> Kind {
+        match code {
+            0 => Kind::Scene,
+            1 => Kind::Device,
+            2 => Kind::Attach,
+            3 => Kind::Request,
+            4 => Kind::Poke,
+            _ => Kind::Other,
+        }
+    }
+}
 
-const ATTACH: u8 = 2;
+impl Kind {
+    pub(crate) fn of(tape: &[u8]) -> Kind {
+        Kind::from(byte_at(tape, 0))
+    }
 
-const REQUEST: u8 = 3;
-
-pub const POKE: u8 = 4;
+    // The event that the record is, if it is one.
+    pub(crate) fn event(self) -> Option<Event> {
+        match self {
+            Kind::Attach => Some(Event::Attach),
+            Kind::Request => Some(Event::Request),
+            _ => None,
+        }
+    }
+}
 
 // A request's setup, where data begin, and how long a request can be.
 const SETUP: usize = 8;
@@ -42,27 +68,10 @@ pub(crate) fn next(file: &mut Feed, tape: &mut [u8]) -> bool {
     end == SIZE
 }
 
-// How many events the record is.
-pub(crate) fn events(kind: u8) -> usize
-    ensures { result ≤ 1 }
-{
-    match kind {
-        ATTACH | REQUEST => 1,
-        _ => 0,
-    }
-}
-
-pub(crate) fn event(kind: u8) -> Event {
-    match kind {
-        REQUEST => Event::Request,
-        _ => Event::Attach,
-    }
-}
-
 pub(crate) fn device(tape: &[u8]) -> Device {
     let mode = codes::mode(byte_at(tape, 1));
-    let pending = codes::pending(Spelled {
-        kind: byte_at(tape, 8),
+    let pending = Pending::from(Spelled {
+        kind: codes::Kind::from(byte_at(tape, 8)),
         address: quad(tape, 12),
         block: pair(tape, 16),
         count: pair(tape, 18),
@@ -77,12 +86,10 @@ pub(crate) fn device(tape: &[u8]) -> Device {
 
 // How long a request is whose setup has `there` bytes and whose data `count`: for an attach there is none, and behind a
 // short setup nothing follows.
-pub(crate) fn length(kind: u8, there: u8, count: u16) -> usize {
-    if kind != REQUEST {
-        return 0;
+pub(crate) fn length(kind: Kind, there: u8, count: u16) -> usize {
+    match kind {
+        Kind::Request if there < 8 => there as usize,
+        Kind::Request => SETUP + count as usize,
+        _ => 0,
     }
-    if there < 8 {
-        return there as usize;
-    }
-    SETUP + count as usize
 }

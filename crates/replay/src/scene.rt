@@ -2,8 +2,9 @@
 ghost use Rattle.std.specs.Prelude.{◌≤◌};
 
 use crate::record;
+use crate::record::Kind;
 use board::Board;
-use buffer::{byte_at, least};
+use buffer::byte_at;
 use device::Device;
 use numbers::lent;
 use request::Setup;
@@ -25,7 +26,7 @@ pub const OTHERS: usize = Setup::TRANSFER as usize + 1;
 #[derive(Clone, Copy)]
 pub struct Lending {
     pub device: Device,
-    pub kind: u8,
+    pub kind: Kind,
     pub request: usize,
     pub memory: usize,
     pub block: usize,
@@ -42,15 +43,15 @@ pub struct Ends {
     pub reply: usize,
 }
 
-// What a record lays into the buffers: how many bytes of memory are mottled, how many are then the same, and which; how
-// many option bytes; a byte at a place; how many bytes of block and reply buffer.
+// What a record lays into the buffers: how many bytes of memory are mottled, how many are then the same, and which;
+// whether there are option bytes; a byte at a place; how many bytes of block and reply buffer.
 #[derive(Clone, Copy)]
 struct Strokes {
     seed: u8,
     mottled: usize,
     plain: usize,
     byte: u8,
-    options: usize,
+    has_options: bool,
     place: usize,
     poked: usize,
     poke: u8,
@@ -67,20 +68,20 @@ pub(crate) fn ends_of(
     ensures from_le_to { (result.from ≤ result.to) × (result.to ≤ tape) }
     ensures memory_le_memory { (result.memory ≤ memory) × (result.block ≤ block) × (result.reply ≤ reply) }
 {
-    let to = least(record::SIZE + least(lending.request, record::LONGEST), tape);
+    let to = (record::SIZE + lending.request.min(record::LONGEST)).min(tape);
     Ends {
-        from: least(record::SIZE, to),
+        from: record::SIZE.min(to),
         to,
-        memory: least(lending.memory, memory),
-        block: least(lending.block, block),
-        reply: least(lending.reply, reply),
+        memory: lending.memory.min(memory),
+        block: lending.block.min(block),
+        reply: lending.reply.min(reply),
     }
 }
 
 pub(crate) fn empty() -> Lending {
     Lending {
         device: Device::start(Board::LOGGER),
-        kind: record::SCENE,
+        kind: Kind::Scene,
         request: 0,
         memory: 0,
         block: 0,
@@ -91,19 +92,20 @@ pub(crate) fn empty() -> Lending {
 // What is lent behind a record, from what was lent before it. Lengths are codes: right, a byte short, a byte long, or
 // empty.
 pub(crate) fn after(lending: Lending, tape: &[u8]) -> Lending {
-    match byte_at(tape, 0) {
-        record::SCENE => Lending {
+    let kind = Kind::of(tape);
+    match kind {
+        Kind::Scene => Lending {
             memory: lent(byte_at(tape, 19), MEMORY),
             block: lent(byte_at(tape, 20), Setup::TRANSFER),
             reply: lent(byte_at(tape, 21), Setup::TRANSFER),
             ..empty()
         },
-        record::DEVICE => Lending {
+        Kind::Device => Lending {
             device: record::device(tape),
-            kind: record::DEVICE,
+            kind,
             ..lending
         },
-        kind => Lending {
+        _ => Lending {
             kind,
             request: record::length(kind, byte_at(tape, 9), numbers::pair(tape, 10)),
             ..lending
@@ -119,11 +121,8 @@ fn mixed(i: usize, seed: u8) -> u8
 
 // Bytes that differ from place to place and from page to page.
 fn mottle(memory: &mut [u8], count: usize, seed: u8) {
-    let end = least(least(count, memory.len()), 65535);
-    let mut i = 0;
-    while i < end {
+    for i in 0..count.min(memory.len()).min(65535) {
         memory[i] = mixed(i, seed);
-        i += 1;
     }
 }
 
@@ -134,7 +133,7 @@ fn pattern(code: u8, seed: u8) -> Strokes {
         mottled: ALL,
         plain: 0,
         byte: 0xFF,
-        options: OPTIONS,
+        has_options: true,
         place: ALL,
         poked: 1,
         poke: 0x77,
@@ -165,32 +164,27 @@ fn strokes_of(tape: &[u8]) -> Strokes {
         mottled: 0,
         plain: 0,
         byte: 0,
-        options: 0,
+        has_options: false,
         place: numbers::quad(tape, 4) as usize,
         poked: 0,
         poke: byte_at(tape, 8),
         others: 0,
     };
-    match byte_at(tape, 0) {
-        record::SCENE => pattern(byte_at(tape, 1), byte_at(tape, 2)),
-        record::POKE => Strokes { poked: 1, ..none },
+    match Kind::of(tape) {
+        Kind::Scene => pattern(byte_at(tape, 1), byte_at(tape, 2)),
+        Kind::Poke => Strokes { poked: 1, ..none },
         _ => none,
     }
 }
 
-// The option bytes of a scene.
-fn lay_options(tape: &[u8], count: usize, memory: &mut [u8]) {
-    if count != OPTIONS {
-        return;
-    }
-    if tape.len() < 19 {
-        return;
-    }
+// The option bytes of a scene, where there is room for them.
+fn lay_options(tape: &[u8], memory: &mut [u8]) {
     let from = Board::LOGGER.options_from();
-    if memory.len() < from + OPTIONS {
-        return;
+    if let Some(options) = tape.get(3..3 + OPTIONS) {
+        if from + OPTIONS <= memory.len() {
+            buffer::put(memory, from, options);
+        }
     }
-    buffer::put(memory, from, &tape[3..19]);
 }
 
 // Lays into the buffers what the record asks for.
@@ -204,7 +198,9 @@ pub(crate) fn paint(tape: &[u8], memory: &mut [u8], block: &mut [u8], reply: &mu
         strokes.byte,
         0,
     );
-    lay_options(tape, strokes.options, memory);
+    if strokes.has_options {
+        lay_options(tape, memory);
+    }
     ramp(memory, strokes.place, strokes.poked, strokes.poke, 0);
     ramp(block, 0, strokes.others, strokes.seed, 3);
     ramp(reply, 0, strokes.others, strokes.seed, 5);

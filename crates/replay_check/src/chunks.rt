@@ -15,43 +15,46 @@ struct Made {
 
 // The digits of the bytes of a ramp from place `from` up to place `to` go behind the text; gives how long it is then.
 fn spell(text: &mut [u8], size: usize, ramp: &[u8], from: usize, to: usize) -> usize {
-    if ramp.len() < to {
+    let Some(bytes) = ramp.get(from..to) else {
+        return size;
+    };
+    if text.len() < size || (text.len() - size) / 2 < bytes.len() {
         return size;
     }
-    if to < from {
-        return size;
-    }
-    if text.len() < size {
-        return size;
-    }
-    if (text.len() - size) / 2 < to - from {
-        return size;
-    }
-    hexfield::encode(&ramp[from..to], text, size);
-    size + (to - from) * 2
+    hexfield::encode(bytes, text, size);
+    size + bytes.len() * 2
 }
 
-// What is known of the text with a literal behind it, if there was one.
-fn noted(made: Made, literal: u16, size: usize) -> Made {
-    if literal == 0 {
-        return made;
-    }
-    Made {
-        size,
-        at: made.size,
-        literal,
-    }
-}
-
-// The chunk goes behind the text. Of a literal, a ramp and a repetition two have no bytes.
+// The chunk goes behind the text. A literal without bytes leaves the last one as it is.
 fn add(file: &mut Feed, made: Made, chunk: Chunk, text: &mut [u8], ramp: &mut [u8]) -> Made {
-    vectors::ramp(ramp, 0, chunk.to, chunk.seed, chunk.factor);
-    let end = feed::load(file, text, made.size, chunk.literal as usize);
-    let next = noted(made, chunk.literal, end);
-    let count = head::product(next.literal, chunk.again);
-    let again = vectors::repeat(text, next.at, next.literal as usize, next.size, count);
-    let size = spell(text, again, ramp, chunk.from, chunk.to);
-    Made { size, ..next }
+    match chunk {
+        Chunk::Literal(0) | Chunk::Other => made,
+        Chunk::Literal(count) => Made {
+            size: feed::load(file, text, made.size, count as usize),
+            at: made.size,
+            literal: count,
+        },
+        Chunk::Again(times) => {
+            let period = made.literal as usize;
+            let count = period.saturating_mul(times as usize);
+            Made {
+                size: vectors::repeat(text, made.at, period, made.size, count),
+                ..made
+            }
+        }
+        Chunk::Ramp {
+            from,
+            to,
+            factor,
+            seed,
+        } => {
+            vectors::ramp(ramp, 0, to, seed, factor);
+            Made {
+                size: spell(text, made.size, ramp, from, to),
+                ..made
+            }
+        }
+    }
 }
 
 // Reads the chunks of a text, makes it at the front of `text`, and gives how long it is.
@@ -64,10 +67,12 @@ pub(crate) fn read(file: &mut Feed, text: &mut [u8], ramp: &mut [u8]) -> usize
         at: 0,
         literal: 0,
     };
-    let mut left = feed::MOST;
-    while left > 0 && head::next(file, &mut head) {
-        made = add(file, made, head::chunk_of(&head), text, ramp);
-        left -= 1;
-    }
-    buffer::least(made.size, text.len())
+    feed::turns(|| {
+        let is_there = head::next(file, &mut head);
+        if is_there {
+            made = add(file, made, Chunk::of(&head), text, ramp);
+        }
+        is_there
+    });
+    made.size.min(text.len())
 }

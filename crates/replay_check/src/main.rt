@@ -8,8 +8,6 @@ mod chunks;
 mod head;
 mod output;
 
-ghost use Rattle.std.specs.Prelude.{◌≤◌};
-
 use feed::Feed;
 use head::Job;
 
@@ -25,37 +23,21 @@ fn judge(rt: &impl Print, text: &[u8], image: &[u8], card: &[u8], work: &mut [u8
     output::print(rt, verdict, work);
 }
 
-// Lends every buffer in the length that the job asks for; the header holds the card. What finds no room has no line.
-fn lend(rt: &impl Print, job: Job, header: &[u8], text: &[u8], image: &[u8], work: &mut [u8])
-    requires { 8 ≤ job.card_end }
-{
-    let length = job.image;
-    let end = job.card_end;
-    let room = job.work;
-    if image.len() < length {
-        return;
-    }
-    if header.len() < end {
-        return;
-    }
-    if work.len() < room {
-        return;
-    }
-    judge(
-        rt,
-        text,
-        &image[0..length],
-        &header[head::CARD..end],
-        &mut work[0..room],
-    );
-}
-
-// Makes the image and the work area of a job, and lets the checker judge.
+// Makes the image and the work area of a job, and lets the checker judge; the header holds the card. What finds no room
+// has no line.
 fn prepare(rt: &impl Print, header: &[u8], text: &[u8], image: &mut [u8], work: &mut [u8]) {
-    let job = head::job_of(header);
+    let job = Job::of(header);
     vectors::ramp(image, 0, job.image, job.seed, job.factor);
     vectors::ramp(work, 0, job.work, job.work_seed, job.work_step);
-    lend(rt, job, header, text, image, work);
+    if let Some(card) = header.get(head::CARD..job.card_end) {
+        feed::lend(
+            image,
+            job.image,
+            work,
+            job.work,
+            |image, work| judge(rt, text, image, card, work),
+        );
+    }
 }
 
 // The text is judged as given, in mixed letters and in small letters.
@@ -67,37 +49,28 @@ fn play(rt: &impl Print, header: &[u8], text: &mut [u8], image: &mut [u8], work:
     prepare(rt, header, text, image, work);
 }
 
-// How many jobs there were. A header that is no job's ends the file.
-fn replay(
+// Reads the next job, if there is one, and plays it. A header that is no job's ends the file.
+fn turn(
     rt: &impl Print,
     file: &mut Feed,
-    header: &mut [u8],
     text: &mut [u8],
     image: &mut [u8],
     work: &mut [u8],
-) -> usize {
-    let mut count = 0;
-    while count < feed::MOST && head::next(file, header) {
+) -> bool {
+    let mut header = [0u8; head::JOB];
+    let is_there = head::next(file, &mut header);
+    if is_there {
         let size = chunks::read(file, text, work);
-        play(rt, header, &mut text[0..size], image, work);
-        count += 1;
+        play(rt, &header, &mut text[0..size], image, work);
     }
-    count
+    is_there
 }
 
 fn main(rt: HostRuntime) {
-    let mut header = [0u8; head::JOB];
     let mut text = [0u8; TEXT_ROOM];
     let mut image = [0u8; IMAGE_ROOM];
     let mut work = [0u8; WORK_ROOM];
     let mut file = feed::open(&rt);
-    let count = replay(
-        &rt,
-        &mut file,
-        &mut header,
-        &mut text,
-        &mut image,
-        &mut work,
-    );
+    let count = feed::turns(|| turn(&rt, &mut file, &mut text, &mut image, &mut work));
     feed::finish(&rt, file, b"jobs #\n", count);
 }

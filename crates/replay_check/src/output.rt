@@ -6,16 +6,6 @@ use verdict::Verdict;
 // Room for a report.
 const ROOM: usize = 64;
 
-fn is_refused(verdict: Verdict) -> bool {
-    match verdict {
-        Verdict::Pass => false,
-        Verdict::Event(_) => false,
-        Verdict::End(_) => false,
-        Verdict::Flash(_) => false,
-        Verdict::Refused(_) => true,
-    }
-}
-
 // How much of a report is printed: its line end comes behind the digest, if there is one.
 fn shown(size: usize, is_refused: bool) -> usize
     ensures { result ≤ 64 }
@@ -23,24 +13,21 @@ fn shown(size: usize, is_refused: bool) -> usize
     if ROOM < size {
         return 0;
     }
-    if is_refused && 0 < size {
-        return size - 1;
-    }
-    size
+    if is_refused { size.saturating_sub(1) } else { size }
 }
 
-fn print_digest(rt: &impl Print, is_refused: bool, work: &[u8]) {
-    if is_refused {
-        let d = vectors::digest(work);
-        feed::print(rt, b"\t%%%%\n", &[d / 16777216, d / 65536, d / 256, d]);
-    }
+fn print_digest(rt: &impl Print, work: &[u8]) {
+    let d = vectors::digest(work);
+    feed::print(rt, b"\t%%%%\n", &[d / 16777216, d / 65536, d / 256, d]);
 }
 
 pub(crate) fn print(rt: &impl Print, verdict: Verdict, work: &[u8]) {
     let mut line = [0u8; ROOM];
     let done = verdict::report(verdict, &mut line);
     let told = numbers::told(done);
-    let is_refused = is_refused(verdict);
+    let is_refused = matches!(verdict, Verdict::Refused(_));
     let _ = rt.write_all(&line[0..shown(told.count, is_refused)]);
-    print_digest(rt, is_refused, work);
+    if is_refused {
+        print_digest(rt, work);
+    }
 }

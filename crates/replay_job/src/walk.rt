@@ -1,17 +1,27 @@
 // A walk over a text by `text::item_at`: the events that it meets, and the digest of its items.
+use request::Setup;
 use text::Item;
 
-// Where the walk is, the events that it met, the digest of its items, and whether it is over: 1 at the end, 2 at a
-// malformed line.
+// Where the walk is, the events that it met, the digest of its items, and whether it met a malformed line.
 #[derive(Clone, Copy)]
 pub struct Walk {
     pub at: usize,
     pub events: u32,
     pub digest: usize,
-    pub over: u8,
+    pub is_bad: bool,
 }
 
-fn requested(walk: Walk, setup: request::Setup, data: usize, next: usize) -> Walk {
+// The walk behind an event more, whose numbers these are.
+fn behind(walk: Walk, numbers: &[usize], next: usize) -> Walk {
+    Walk {
+        at: next,
+        events: walk.events.wrapping_add(1),
+        digest: vectors::mix(walk.digest, numbers),
+        ..walk
+    }
+}
+
+fn requested(walk: Walk, setup: Setup, data: usize, next: usize) -> Walk {
     let numbers = [
         1,
         setup.kind as usize,
@@ -22,41 +32,35 @@ fn requested(walk: Walk, setup: request::Setup, data: usize, next: usize) -> Wal
         data,
         next,
     ];
-    Walk {
-        at: next,
-        events: std::num::wrapping_add_u32(walk.events, 1),
-        digest: vectors::mix(walk.digest, &numbers),
-        over: 0,
+    behind(walk, &numbers, next)
+}
+
+// The walk behind the next item; false where it is over.
+fn step(text: &[u8], walk: &mut Walk) -> bool {
+    match text::item_at(text, walk.at) {
+        Item::End => false,
+        Item::Bad => {
+            walk.is_bad = true;
+            false
+        }
+        Item::Attach { next } => {
+            *walk = behind(*walk, &[0, next], next);
+            true
+        }
+        Item::Request { setup, data, next } => {
+            *walk = requested(*walk, setup, data, next);
+            true
+        }
     }
 }
 
-fn step(text: &[u8], walk: Walk) -> Walk {
-    let found = text::item_at(text, walk.at);
-    match found {
-        Item::End => Walk { over: 1, ..walk },
-        Item::Bad => Walk { over: 2, ..walk },
-        Item::Attach { next } => Walk {
-            at: next,
-            events: std::num::wrapping_add_u32(walk.events, 1),
-            digest: vectors::mix(walk.digest, &[0, next]),
-            over: 0,
-        },
-        Item::Request { setup, data, next } => requested(walk, setup, data, next),
-    }
-}
-
-// A proved loop has to end: more steps than any text of ours has.
 pub(crate) fn whole(text: &[u8]) -> Walk {
     let mut walk = Walk {
         at: 0,
         events: 0,
         digest: 1,
-        over: 0,
+        is_bad: false,
     };
-    let mut left = feed::MOST;
-    while left > 0 && walk.over == 0 {
-        walk = step(text, walk);
-        left -= 1;
-    }
+    feed::turns(|| step(text, &mut walk));
     walk
 }

@@ -1,6 +1,4 @@
 // A vector: 48 bytes, numbers low byte first.
-ghost use Rattle.std.specs.Prelude.{◌≤◌};
-
 use buffer::byte_at;
 use numbers::{pair, quad};
 
@@ -26,23 +24,23 @@ pub struct Vector {
     pub card_end: usize,
 }
 
-fn scattered(kind: u8, size: usize) -> usize {
-    if kind == SCATTERED { size } else { 0 }
-}
-
-pub(crate) fn parse(head: &[u8]) -> Vector
-    ensures { 16 ≤ result.card_end }
-{
-    let image = pair(head, 2) as usize;
-    let card = byte_at(head, 10) as usize;
-    Vector {
-        seed: byte_at(head, 1),
-        image,
-        first: byte_at(head, 4),
-        factor: byte_at(head, 5),
-        scattered: scattered(byte_at(head, 0), image),
-        start: quad(head, 4),
-        room: pair(head, 8) as usize,
-        card_end: CARD + card,
+impl Vector {
+    pub(crate) fn of(head: &[u8]) -> Vector {
+        let image = pair(head, 2) as usize;
+        let scattered = if byte_at(head, 0) == SCATTERED {
+            image
+        } else {
+            0
+        };
+        Vector {
+            seed: byte_at(head, 1),
+            image,
+            first: byte_at(head, 4),
+            factor: byte_at(head, 5),
+            scattered,
+            start: quad(head, 4),
+            room: pair(head, 8) as usize,
+            card_end: CARD + byte_at(head, 10) as usize,
+        }
     }
 }

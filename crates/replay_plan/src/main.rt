@@ -5,8 +5,6 @@
 
 mod head;
 
-ghost use Rattle.std.specs.Prelude.{◌≤◌};
-
 use feed::Feed;
 use head::Vector;
 
@@ -23,11 +21,9 @@ fn after(number: u32) -> u32 {
 // The first `count` bytes become the low bytes of the row that the seed begins.
 fn scatter(out: &mut [u8], count: usize, seed: u32) {
     let mut number = seed;
-    let mut i = 0;
-    while i < count && i < out.len() {
+    for byte in out.iter_mut().take(count) {
         number = after(number);
-        out[i] = (number % 256) as u8;
-        i += 1;
+        *byte = (number % 256) as u8;
     }
 }
 
@@ -42,60 +38,38 @@ fn perform(rt: &impl Print, image: &[u8], card: &[u8], out: &mut [u8]) {
     );
 }
 
-// Lends every buffer in the length that the vector asks for; the head holds the card. What finds no room has no line.
-fn lend(rt: &impl Print, vector: Vector, head: &[u8], image: &[u8], out: &mut [u8])
-    requires { 16 ≤ vector.card_end }
-{
-    let size = vector.image;
-    let end = vector.card_end;
-    let room = vector.room;
-    if image.len() < size {
-        return;
-    }
-    if head.len() < end {
-        return;
-    }
-    if out.len() < room {
-        return;
-    }
-    perform(
-        rt,
-        &image[0..size],
-        &head[head::CARD..end],
-        &mut out[0..room],
-    );
-}
-
-// Makes the image and the output buffer of a vector, and lets it happen.
-fn turn(rt: &impl Print, head: &[u8], image: &mut [u8], out: &mut [u8]) {
-    let vector = head::parse(head);
+// Makes the image and the output buffer of a vector, and lets it happen; the head holds the card. What finds no room has
+// no line.
+fn play(rt: &impl Print, head: &[u8], image: &mut [u8], out: &mut [u8]) {
+    let vector = Vector::of(head);
     vectors::ramp(image, 0, vector.image, vector.first, vector.factor);
     scatter(image, vector.scattered, vector.start);
     vectors::ramp(out, 0, vector.room, vector.seed, 7);
-    lend(rt, vector, head, image, out);
+    if let Some(card) = head.get(head::CARD..vector.card_end) {
+        feed::lend(
+            image,
+            vector.image,
+            out,
+            vector.room,
+            |image, out| perform(rt, image, card, out),
+        );
+    }
 }
 
-// How many vectors there were.
-fn replay(
-    rt: &impl Print,
-    file: &mut Feed,
-    head: &mut [u8],
-    image: &mut [u8],
-    out: &mut [u8],
-) -> usize {
-    let mut count = 0;
-    while count < feed::MOST && feed::next(file, head) {
-        turn(rt, head, image, out);
-        count += 1;
+// Plays the next vector, if there is one.
+fn turn(rt: &impl Print, file: &mut Feed, image: &mut [u8], out: &mut [u8]) -> bool {
+    let mut head = [0u8; head::SIZE];
+    let is_there = feed::next(file, &mut head);
+    if is_there {
+        play(rt, &head, image, out);
     }
-    count
+    is_there
 }
 
 fn main(rt: HostRuntime) {
-    let mut head = [0u8; head::SIZE];
     let mut image = [0u8; IMAGE_ROOM];
     let mut out = [0u8; OUT_ROOM];
     let mut file = feed::open(&rt);
-    let count = replay(&rt, &mut file, &mut head, &mut image, &mut out);
+    let count = feed::turns(|| turn(&rt, &mut file, &mut image, &mut out));
     feed::finish(&rt, file, b"vectors #\n", count);
 }

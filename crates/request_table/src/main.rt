@@ -55,30 +55,38 @@ fn cell(line: Line, request: Request, out: &mut [u8], at: usize) -> usize {
 // A line, with a column for each request in document 01's order.
 fn print(rt: &impl System, line: Line) {
     let mut room = [0u8; ROOM];
-    let mut at = append::say(b"| ", &mut room, 0);
-    at = title(line, &mut room, at);
-    at = cell(line, Request::Download, &mut room, at);
-    at = cell(line, Request::Upload, &mut room, at);
-    at = cell(line, Request::GetStatus, &mut room, at);
-    at = cell(line, Request::ClearStatus, &mut room, at);
-    at = cell(line, Request::GetState, &mut room, at);
-    at = cell(line, Request::Abort, &mut room, at);
-    at = cell(line, Request::Unknown, &mut room, at);
-    at = append::say(b" |\n", &mut room, at);
-    files::write(rt, Stream::Out, &room, at);
+    let begun = append::say(b"| ", &mut room, 0);
+    let mut at = title(line, &mut room, begun);
+    for request in [
+        Request::Download,
+        Request::Upload,
+        Request::GetStatus,
+        Request::ClearStatus,
+        Request::GetState,
+        Request::Abort,
+        Request::Unknown,
+    ] {
+        at = cell(line, request, &mut room, at);
+    }
+    let end = append::say(b" |\n", &mut room, at);
+    files::write(rt, Stream::Out, &room, end);
 }
 
 fn main(rt: HostRuntime) {
     print(&rt, Line::Names);
     let rule = b"|---|---|---|---|---|---|---|---|\n";
     files::write(&rt, Stream::Out, rule, rule.len());
-    print(&rt, Line::Answers(Mode::Idle));
-    print(&rt, Line::Answers(Mode::DownloadSync));
-    print(&rt, Line::Answers(Mode::DownloadBusy));
-    print(&rt, Line::Answers(Mode::DownloadIdle));
-    print(&rt, Line::Answers(Mode::ManifestSync));
-    print(&rt, Line::Answers(Mode::UploadIdle));
-    print(&rt, Line::Answers(Mode::Error));
-    print(&rt, Line::Answers(Mode::Left));
-    print(&rt, Line::Answers(Mode::Rebooting));
+    for mode in [
+        Mode::Idle,
+        Mode::DownloadSync,
+        Mode::DownloadBusy,
+        Mode::DownloadIdle,
+        Mode::ManifestSync,
+        Mode::UploadIdle,
+        Mode::Error,
+        Mode::Left,
+        Mode::Rebooting,
+    ] {
+        print(&rt, Line::Answers(mode));
+    }
 }

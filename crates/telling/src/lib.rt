@@ -7,16 +7,17 @@ ghost use Rattle.refusal.specs.Delivery.{delivery};
 ghost use Rattle.files.specs.Came.{Came};
 ghost use Rattle.telling.specs.Gathered.{told_at_once, gathered_of};
 
-use files::{Got, Stream, System};
+use files::{Stream, System, Unread, Wanted};
 use refusal::Refusal;
 use verdict::Verdict;
 
 // How much is said of a file that cannot be read: nothing, the line that refuses, or that line and a sentence.
-pub const NOTHING: usize = 0;
-
-pub const LINE: usize = 1;
-
-pub const WORDS: usize = 2;
+#[derive(Clone, Copy, PartialEq, Eq)]
+pub enum Much {
+    Nothing,
+    Line,
+    Words,
+}
 
 // A line has a word, a digit or two, and a number.
 const LINE_ROOM: usize = 64;
@@ -30,12 +31,12 @@ pub fn line(rt: &impl System, to: Stream, verdict: Verdict) {
 }
 
 // Refuses for a file: the line goes to `to`, a sentence to standard error.
-fn refuse(rt: &impl System, to: Stream, much: usize, got: Got, argument: usize, file: &[u8]) {
-    if LINE <= much {
+fn refuse(rt: &impl System, to: Stream, much: Much, unread: Unread, file: Wanted) {
+    if much != Much::Nothing {
         line(rt, to, Verdict::Refused(Refusal::File));
     }
-    if WORDS <= much {
-        files::unreadable(rt, got, argument, file);
+    if much == Much::Words {
+        files::unreadable(rt, unread, file);
     }
 }
 
@@ -43,31 +44,24 @@ fn refuse(rt: &impl System, to: Stream, much: usize, got: Got, argument: usize, 
 pub fn load(
     rt: &impl System,
     to: Stream,
-    much: usize,
-    argument: usize,
-    file: &[u8],
+    much: Much,
+    file: Wanted,
     buffer: &mut [u8],
-) -> Got
+) -> Result<usize, Unread>
     ensures { Came result buffer.old buffer.new }
 {
-    let got = files::read(rt, argument, file, buffer);
-    if !got.is_read {
-        refuse(rt, to, much, got, argument, file);
+    let came = files::read(rt, file, buffer);
+    if let Err(unread) = came {
+        refuse(rt, to, much, unread, file);
     }
-    got
+    came
 }
 
 // Is the verdict explained without a board?
 fn told_at_once(verdict: Verdict) -> bool
     ensures { result ≡ told_at_once verdict }
 {
-    match verdict {
-        Verdict::Pass => true,
-        Verdict::Event(_) => false,
-        Verdict::End(_) => false,
-        Verdict::Flash(_) => false,
-        Verdict::Refused(_) => true,
-    }
+    matches!(verdict, Verdict::Pass | Verdict::Refused(_))
 }
 
 // The job's events go to the front of `room`, packed, where they are needed. A packed job has half the bytes of its

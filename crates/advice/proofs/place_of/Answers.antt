@@ -5,4 +5,4 @@ use Rattle.advice.proofs.place_of.Goals as goal
 
 pub overflow_add-result : goal.overflow_add-result
 overflow_add-result c =
-    omega (arith, logger-sound.flash_in_memory, logger-sound.memory_small, c.least.ensures, c.flash_bytes.ensures, c.flash_from.ensures)
+    omega (arith, logger-sound.flash_in_memory, logger-sound.memory_small, c.min.ensures, c.flash_bytes.ensures, c.flash_from.ensures)

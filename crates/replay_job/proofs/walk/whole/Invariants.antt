@@ -1,9 +1,0 @@
--- `replay_job::walk::whole` is safe and ends. Assumes nothing.
-use Rattle.std.proofs.Common.{◌≤◌}
-use Rattle.replay_job.proofs.walk.whole.Given as goal
-
-abbrev pub invariant-loop-left : goal.invariant-loop-left
-invariant-loop-left l = l.left ≤ l.initial.left
-
-abbrev pub decreases-loop-left : goal.decreases-loop-left
-decreases-loop-left l = l.left
