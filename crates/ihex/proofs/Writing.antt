@@ -95,12 +95,6 @@ part_is xs from end h e =
     let z : length (drop from xs) ≤ 16 = omega arith in
     take_all (end - from) (drop from xs) y ∙ sym (take_all 16 (drop from xs) z))
 
-pub part_starts : (xs : List ℕ) (from end : ℕ) → from < length xs → end ≡ least_of (from + 16) (length xs) → from ≤ end
-part_starts xs from end h e =
-    by_lt (from + 16) (length xs)
-    (λ l. let x : end ≡ from + 16 = e ∙ rw (lt-ltb (from + 16) (length xs) l) in omega arith)
-    (λ l. let x : end ≡ length xs = e ∙ rw (le-ltb (from + 16) (length xs) l) in omega arith)
-
 -- one record written into out at place `to`
 module _ (xs out : List ℕ) (from to end : ℕ) (more : from < length xs) (ends : end ≡ least_of (from + 16) (length xs)) (room : to + length (left xs from) ≤ length out) where
   abbrev line : List ℕ

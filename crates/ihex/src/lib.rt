@@ -174,7 +174,7 @@ fn text_size(image: &[u8]) -> usize
     requires { length image.now ≤ offset_count }
     ensures { result ≡ text_bytes (length image.now) }
 {
-    OUTER + (image.len() + (RECORD - 1)) / RECORD * record::LINE + image.len() * 2
+    OUTER + image.len().div_ceil(RECORD) * record::LINE + image.len() * 2
 }
 
 // Writes the data records of an image into `out` from place `at` on, and gives the place behind them.
@@ -182,12 +182,11 @@ fn write_data(image: &[u8], out: &mut [u8], at: usize) -> usize
     requires { (length image.now ≤ offset_count) × (at + length (data_text image.now) ≤ length out.old) }
     ensures { (out.new ≡ put at (data_text image.now) out.old) × (result ≡ at + length (data_text image.now)) }
 {
-    let mut from = 0;
     let mut to = at;
-    while from < image.len() {
-        let end = buffer::least(from + RECORD, image.len());
+    for n in 0..image.len().div_ceil(RECORD) {
+        let from = n * RECORD;
+        let end = (from + RECORD).min(image.len());
         to += record::write(record::DATA, from as u16, &image[from..end], out, to);
-        from += RECORD;
     }
     to
 }
