@@ -42,24 +42,22 @@ pub struct Pages {
 }
 
 // The action that a request runs, if it is the GETSTATUS that a command waits for; it is not run by this.
+#[tactic(auto, unfolding(crate::specs::Action::due_of, crate::specs::Action::status_action))]
 pub fn due(board: Board, protected: bool, device: Device, setup: Setup) -> Action
     ensures { (k : Command) → result ≡ due_of board protected device (decide_of device setup k) }
 {
-    if !decision::asks_status(device, setup) {
-        return Action::Rest;
+    if decision::asks_status(device, setup) && device.waits() {
+        return intend(board, protected, device);
     }
-    if !device.waits() {
-        return Action::Rest;
-    }
-    intend(board, protected, device)
+    Action::Rest
 }
 
 // What the device's pending command does.
+#[tactic(auto, unfolding(crate::specs::Action::action_of))]
 pub fn intend(board: Board, protected: bool, device: Device) -> Action
     ensures { result ≡ action_of board protected device }
 {
-    let pending = device.pending;
-    match pending {
+    match device.pending {
         Pending::Nothing => Action::Rest,
         Pending::SetPointer(address) => point(board, address),
         Pending::ErasePage(address) => erase(board, protected, address),
@@ -105,9 +103,7 @@ fn erase_at(board: Board, place: Place) -> Action
 {
     match place {
         Place::Flash(at) => Action::Erase(board.page_at(at)),
-        Place::Ram(_) => Action::Fail(Device::TARGET),
-        Place::Options(_) => Action::Fail(Device::TARGET),
-        Place::Outside => Action::Fail(Device::TARGET),
+        Place::Ram(_) | Place::Options(_) | Place::Outside => Action::Fail(Device::TARGET),
     }
 }
 
@@ -147,16 +143,16 @@ impl Action {
         ensures { result ≡ moved_of self pointer }
     {
         match self {
-            Action::Rest => pointer,
-            Action::Fail(_) => pointer,
             Action::Point(address) => address,
-            Action::Erase(_) => pointer,
-            Action::EraseAll => pointer,
-            Action::Unprotect => pointer,
-            Action::ClearRam => pointer,
-            Action::StoreFlash { at: _, count: _ } => pointer,
-            Action::StoreRam { at: _, count: _ } => pointer,
-            Action::StoreOptions { at: _, count: _ } => pointer,
+            Action::Rest
+            | Action::Fail(_)
+            | Action::Erase(_)
+            | Action::EraseAll
+            | Action::Unprotect
+            | Action::ClearRam
+            | Action::StoreFlash { .. }
+            | Action::StoreRam { .. }
+            | Action::StoreOptions { .. } => pointer,
         }
     }
 
@@ -165,16 +161,16 @@ impl Action {
         ensures { result ≡ writes_of self }
     {
         match self {
-            Action::Rest => Span { at: 0, count: 0 },
-            Action::Fail(_) => Span { at: 0, count: 0 },
-            Action::Point(_) => Span { at: 0, count: 0 },
-            Action::Erase(_) => Span { at: 0, count: 0 },
-            Action::EraseAll => Span { at: 0, count: 0 },
-            Action::Unprotect => Span { at: 0, count: 0 },
-            Action::ClearRam => Span { at: 0, count: 0 },
-            Action::StoreFlash { at, count } => Span { at, count },
-            Action::StoreRam { at, count } => Span { at, count },
-            Action::StoreOptions { at, count } => Span { at, count },
+            Action::StoreOptions { at, count }
+            | Action::StoreFlash { at, count }
+            | Action::StoreRam { at, count } => Span { at, count },
+            Action::Rest
+            | Action::Fail(_)
+            | Action::Point(_)
+            | Action::Erase(_)
+            | Action::EraseAll
+            | Action::Unprotect
+            | Action::ClearRam => Span { at: 0, count: 0 },
         }
     }
 
@@ -182,27 +178,22 @@ impl Action {
     pub fn erases(self, board: Board) -> Pages
         ensures { result ≡ erases_of board self }
     {
-        let all = board.flash_pages();
         match self {
-            Action::Rest => Pages { first: 0, count: 0 },
-            Action::Fail(_) => Pages { first: 0, count: 0 },
-            Action::Point(_) => Pages { first: 0, count: 0 },
             Action::Erase(page) => Pages {
                 first: page,
                 count: 1,
             },
-            Action::EraseAll => Pages {
+            Action::EraseAll | Action::Unprotect => Pages {
                 first: 0,
-                count: all,
+                count: board.flash_pages(),
             },
-            Action::Unprotect => Pages {
-                first: 0,
-                count: all,
-            },
-            Action::ClearRam => Pages { first: 0, count: 0 },
-            Action::StoreFlash { at: _, count: _ } => Pages { first: 0, count: 0 },
-            Action::StoreRam { at: _, count: _ } => Pages { first: 0, count: 0 },
-            Action::StoreOptions { at: _, count: _ } => Pages { first: 0, count: 0 },
+            Action::Rest
+            | Action::Fail(_)
+            | Action::Point(_)
+            | Action::ClearRam
+            | Action::StoreFlash { .. }
+            | Action::StoreRam { .. }
+            | Action::StoreOptions { .. } => Pages { first: 0, count: 0 },
         }
     }
 
@@ -210,35 +201,19 @@ impl Action {
     pub fn spares(self) -> bool
         ensures { result ≡ spares_of self }
     {
-        match self {
-            Action::Rest => false,
-            Action::Fail(_) => false,
-            Action::Point(_) => false,
-            Action::Erase(_) => true,
-            Action::EraseAll => true,
-            Action::Unprotect => false,
-            Action::ClearRam => false,
-            Action::StoreFlash { at: _, count: _ } => true,
-            Action::StoreRam { at: _, count: _ } => false,
-            Action::StoreOptions { at: _, count: _ } => false,
-        }
+        matches!(
+            self,
+            Action::Erase(_) | Action::EraseAll | Action::StoreFlash { .. }
+        )
     }
 
     // Does the board reboot after it?
     pub fn reboots(self) -> bool
         ensures { result ≡ reboots_of self }
     {
-        match self {
-            Action::Rest => false,
-            Action::Fail(_) => false,
-            Action::Point(_) => false,
-            Action::Erase(_) => false,
-            Action::EraseAll => false,
-            Action::Unprotect => true,
-            Action::ClearRam => true,
-            Action::StoreFlash { at: _, count: _ } => false,
-            Action::StoreRam { at: _, count: _ } => false,
-            Action::StoreOptions { at: _, count: _ } => true,
-        }
+        matches!(
+            self,
+            Action::Unprotect | Action::ClearRam | Action::StoreOptions { .. }
+        )
     }
 }
