@@ -13,15 +13,15 @@ use board::Board;
 use device::Device;
 
 // An action on memory; the answer is its status.
+#[tactic(auto, using(board::proofs::Pages::page_in_memory), unfolding(laws::specs::Bytes::put))]
 pub fn perform(board: Board, action: Action, memory: &mut [u8], block: &[u8]) -> u8
     requires { Sound board × (length memory.old ≡ memory_bytes board) × Fits board action × ((writes_of action).count ≤ length block.now) }
     ensures { performed result memory.new ≡ performed_of board action block.now memory.old }
 {
     let word = protection::protection_word(board, memory);
     match action {
-        Action::Rest => 0,
+        Action::Rest | Action::Point(_) => 0,
         Action::Fail(status) => status,
-        Action::Point(_) => 0,
         Action::Erase(page) => {
             flash::erase(board, memory, word, page);
             0
@@ -39,14 +39,11 @@ pub fn perform(board: Board, action: Action, memory: &mut [u8], block: &[u8]) ->
             0
         }
         Action::StoreFlash { at, count } => {
-            write(board, memory, word, at, &block[0..count as usize])
+            write(board, memory, word, at, &block[..count as usize])
         }
-        Action::StoreRam { at, count } => {
-            buffer::put(memory, at, &block[0..count as usize]);
-            0
-        }
-        Action::StoreOptions { at, count } => {
-            buffer::put(memory, at, &block[0..count as usize]);
+        Action::StoreRam { at, count } | Action::StoreOptions { at, count } => {
+            let count = count as usize;
+            memory[at..at + count].copy_from_slice(&block[..count]);
             0
         }
     }

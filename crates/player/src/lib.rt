@@ -1,7 +1,7 @@
 // Packed events on a board, for the programs that play a job to one: what an event asks for, and what comes of it.
 #![tactic(auto)]
 
-ghost use Rattle.std.specs.Prelude.{◌≡◌, cond, ◌-◌, ◌≤◌, eqb, length, drop, get_or};
+ghost use Rattle.std.specs.Prelude.{◌≡◌, cond, eqb, drop, get_or};
 ghost use Rattle.loader.specs.Answer.{left};
 ghost use Rattle.player.specs.Played.{played_of};
 ghost use Rattle.player.specs.Asked.{waits_of, asked_of};
@@ -37,17 +37,15 @@ fn kind(piece: &[u8]) -> Event
     Event::Request
 }
 
-// The place behind the first `count` bytes, or the end where there are not so many.
-fn behind(piece: &[u8], count: usize) -> usize
-    ensures { (drop result piece.now ≡ drop count piece.now) × (result ≤ length piece.now) }
+// What stands behind the first `count` bytes; nothing, where there are not so many.
+fn behind(piece: &[u8], count: usize) -> &[u8]
+    ensures { result.now ≡ drop count piece.now }
 {
-    if piece.len() < count {
-        return piece.len();
-    }
-    count
+    piece.get(count..).unwrap_or(&[])
 }
 
 // A packed event happens to the device.
+#[tactic(auto, using(crate::proofs::Pieces::played_by))]
 pub fn step(
     device: Device,
     piece: &[u8],
@@ -57,9 +55,14 @@ pub fn step(
 ) -> Stepped
     ensures { left result memory.new block.new reply.new ≡ played_of device piece.now memory.old block.old reply.old }
 {
-    let event = kind(piece);
-    let from = behind(piece, REQUEST);
-    loader::step(device, event, &piece[from..], memory, block, reply)
+    loader::step(
+        device,
+        kind(piece),
+        behind(piece, REQUEST),
+        memory,
+        block,
+        reply,
+    )
 }
 
 // The command that waits after a decision, where it is one that can leave a command.
@@ -67,31 +70,27 @@ fn waits(decision: Decision) -> Pending
     ensures { result ≡ waits_of decision }
 {
     match decision {
-        Decision::Accept(next) => next.pending,
-        Decision::Take(next) => next.pending,
-        Decision::Silent => Pending::Nothing,
-        Decision::Stall(_) => Pending::Nothing,
-        Decision::Commands { next: _, count: _ } => Pending::Nothing,
-        Decision::Read => Pending::Nothing,
-        Decision::State => Pending::Nothing,
-        Decision::Status => Pending::Nothing,
+        Decision::Accept(next) | Decision::Take(next) => next.pending,
+        Decision::Stall(_)
+        | Decision::Silent
+        | Decision::Commands { .. }
+        | Decision::Read
+        | Decision::State
+        | Decision::Status => Pending::Nothing,
     }
 }
 
 // What a packed event asks for. Bytes that are not there count as 0.
+#[tactic(auto, unfolding(crate::specs::Asked::asked_of))]
 pub fn asks(piece: &[u8]) -> Asked
     ensures { result ≡ asked_of piece.now }
 {
-    let event = kind(piece);
-    let from = behind(piece, REQUEST);
-    let stage = behind(piece, STAGE);
-    let setup = Setup::of(&piece[from..]);
-    let command = Command::of(&piece[stage..]);
+    let setup = Setup::of(behind(piece, REQUEST));
+    let command = Command::of(behind(piece, STAGE));
     let device = Device::start(Board::LOGGER);
-    let pending = waits(decision::decide(device, setup, command));
     Asked {
-        event,
+        event: kind(piece),
         setup,
-        pending,
+        pending: waits(decision::decide(device, setup, command)),
     }
 }

@@ -5,8 +5,9 @@
 // does to a byte of flash changes it there, for it erases it first.
 #![tactic(auto)]
 
-ghost use Rattle.std.specs.Prelude.{◌≡◌, cond, ◌-◌, ◌≤◌, length, get_or};
+ghost use Rattle.std.specs.Prelude.{◌≡◌, cond, ◌+◌, ◌-◌, ◌≤◌, length, drop, get_or};
 ghost use Rattle.board.specs.Layout.{logger, memory_bytes};
+ghost use Rattle.packed.specs.Ways.{piece_length};
 ghost use Rattle.trial.specs.Trial.{flash_place, leaving_of, unplayed, next_of, life, turn_of, lives_of, first_written, target_of, surveyed, equipped, trial_of};
 
 use board::{Board, Place};
@@ -40,6 +41,7 @@ pub struct Scene {
 }
 
 // A board whose flash and RAM are all `old`, with the options of the card.
+#[tactic(auto, unfolding(crate::specs::Trial::equipped, laws::specs::Bytes::put, laws::specs::Bytes::filled))]
 fn equip(memory: &mut [u8], old: u8, card: &[u8])
     requires { length memory.old ≡ memory_bytes logger }
     ensures { memory.new ≡ equipped old card.now memory.old }
@@ -47,8 +49,9 @@ fn equip(memory: &mut [u8], old: u8, card: &[u8])
     if card.len() != Board::OPTION_BYTES {
         return;
     }
-    buffer::fill(memory, 0, Board::LOGGER.memory_bytes(), old);
-    buffer::put(memory, Board::LOGGER.options_from(), card);
+    memory[..Board::LOGGER.memory_bytes()].fill(old);
+    let options = Board::LOGGER.options_from();
+    memory[options..options + Board::OPTION_BYTES].copy_from_slice(card);
 }
 
 // 1 where the loader is about to leave, or has left.
@@ -56,15 +59,14 @@ fn leaving(mode: Mode) -> usize
     ensures { result ≡ leaving_of mode }
 {
     match mode {
-        Mode::Idle => 0,
-        Mode::DownloadSync => 0,
-        Mode::DownloadBusy => 0,
-        Mode::DownloadIdle => 0,
-        Mode::ManifestSync => 1,
-        Mode::UploadIdle => 0,
-        Mode::Error => 0,
-        Mode::Left => 1,
-        Mode::Rebooting => 0,
+        Mode::ManifestSync | Mode::Left => 1,
+        Mode::Idle
+        | Mode::DownloadSync
+        | Mode::DownloadBusy
+        | Mode::DownloadIdle
+        | Mode::UploadIdle
+        | Mode::Error
+        | Mode::Rebooting => 0,
     }
 }
 
@@ -98,9 +100,8 @@ fn next(scene: Scene, line: usize, at: usize, device: Device, byte: u8) -> Scene
     ensures { result ≡ next_of scene line at device byte }
 {
     let before = scene.device;
-    let was = before.mode;
-    let is = device.mode;
     let stays = byte == scene.byte;
+    let as_before = leaving(before.mode) == leaving(device.mode);
     Scene {
         device,
         count: line,
@@ -109,12 +110,22 @@ fn next(scene: Scene, line: usize, at: usize, device: Device, byte: u8) -> Scene
         changed: latest(stays, scene.changed, line),
         earlier: latest(stays, scene.earlier, scene.changed),
         pointed: latest(before.pointer == device.pointer, scene.pointed, line),
-        left: latest(leaving(was) == leaving(is), scene.left, line),
+        left: latest(as_before, scene.left, line),
         ..scene
     }
 }
 
+// The place behind the event at place `at` of the job, or `at` itself where there is none.
+#[tactic(auto, using(packed::proofs::PieceLength::piece_within))]
+fn behind(packed: &[u8], at: usize) -> usize
+    requires { at ≤ length packed.now }
+    ensures { (result ≡ at + piece_length (drop at packed.now)) × (result ≤ length packed.now) }
+{
+    at + packed::piece_length(&packed[at..]).unwrap_or(0)
+}
+
 // The event in this line happens; the byte at `place` is watched.
+#[tactic(auto, unfolding(crate::specs::Trial::turn_of))]
 fn turn(
     scene: Scene,
     line: usize,
@@ -128,13 +139,14 @@ fn turn(
     ensures { (life result memory.new block.new reply.new ≡ turn_of packed.now place line (life scene memory.old block.old reply.old)) × (result.at ≤ length packed.now) }
 {
     let at = scene.at;
-    let end = at + packed::piece_length(&packed[at..]).unwrap_or(0);
+    let end = behind(packed, at);
     let stepped = player::step(scene.device, &packed[at..end], memory, block, reply);
     let byte = buffer::byte_at(memory, place);
     next(scene, line, end, stepped.device, byte)
 }
 
 // The first `events` events of a job, or all where there are not so many, on the board with this memory.
+#[tactic(auto, using(crate::proofs::Turns::lives_start, crate::proofs::Turns::lives_turn, crate::proofs::Turns::lives_over, crate::proofs::Turns::lives_end))]
 fn live(
     packed: &[u8],
     events: usize,
@@ -146,30 +158,27 @@ fn live(
     ensures { life result memory.new block.new reply.new ≡ lives_of packed.now place events 0 (life (unplayed (get_or memory.old place 0)) memory.old block.old reply.old) }
 {
     let mut scene = first(buffer::byte_at(memory, place));
-    let mut count = 0;
-    while count < events {
+    for count in 0..events {
         if packed.len() <= scene.at {
             return scene;
         }
-        count += 1;
-        scene = turn(scene, count, packed, place, memory, block, reply);
+        scene = turn(scene, count + 1, packed, place, memory, block, reply);
     }
     scene
 }
 
 // The first place from `from` on whose byte is not erased, outside write-protected pages.
+#[tactic(auto, using(crate::proofs::Places::written_erased, crate::proofs::Places::written_kept, crate::proofs::Places::written_found, crate::proofs::Places::written_end))]
 fn first_written(memory: &[u8], from: usize) -> usize
     ensures { result ≡ first_written memory.now (length memory.now - from) from }
 {
     let word = protection::protection_word(Board::LOGGER, memory);
-    let mut i = from;
-    while i < memory.len() {
+    for i in from..memory.len() {
         if memory[i] != 0xFF && !flash::is_kept(Board::LOGGER, word, i) {
             return i;
         }
-        i += 1;
     }
-    i
+    from.max(memory.len())
 }
 
 // A place in flash, and the front of memory for any other.
@@ -178,9 +187,7 @@ fn in_flash(place: Place) -> usize
 {
     match place {
         Place::Flash(at) => at,
-        Place::Ram(_) => 0,
-        Place::Options(_) => 0,
-        Place::Outside => 0,
+        Place::Ram(_) | Place::Options(_) | Place::Outside => 0,
     }
 }
 
@@ -189,26 +196,26 @@ fn aim(pointer: u32, pending: Pending) -> usize
     ensures { result ≡ target_of pointer pending }
 {
     match pending {
-        Pending::Nothing => 0,
-        Pending::SetPointer(_) => 0,
-        Pending::ErasePage(_) => 0,
-        Pending::MassErase => 0,
-        Pending::ReadUnprotect => 0,
         Pending::Write { block, count } => {
             let address = access::block_address(block, pointer);
             in_flash(Board::LOGGER.place(address, count as u64))
         }
+        Pending::Nothing
+        | Pending::SetPointer(_)
+        | Pending::ErasePage(_)
+        | Pending::MassErase
+        | Pending::ReadUnprotect => 0,
     }
 }
 
 // What the memory is like then.
+#[tactic(auto, unfolding(crate::specs::Trial::surveyed, board::specs::Memory::options_of))]
 fn survey(scene: Scene, memory: &[u8], card: &[u8]) -> Scene
     requires { length memory.now ≡ memory_bytes logger }
     ensures { result ≡ surveyed scene memory.now card.now }
 {
     let device = scene.device;
-    let pending = device.pending;
-    let from = aim(device.pointer, pending);
+    let from = aim(device.pointer, device.pending);
     let options = Board::LOGGER.options_from();
     let behind = options + Board::OPTION_BYTES;
     Scene {
@@ -220,6 +227,7 @@ fn survey(scene: Scene, memory: &[u8], card: &[u8]) -> Scene
 }
 
 // The first `events` events of a job on a board with this card, whose flash and RAM were all `old`.
+#[tactic(auto, unfolding(board::specs::Layout::memory_bytes, board::specs::Layout::options_from, board::specs::Layout::ram_from, board::specs::Layout::ram_bytes, board::specs::Layout::flash_bytes, board::specs::Layout::page_offset, board::specs::Layout::flash_pages, board::specs::Layout::page_bytes))]
 pub fn run(packed: &[u8], events: usize, card: &[u8], old: u8, place: usize) -> Scene
     ensures { result ≡ trial_of packed.now events card.now old place }
 {

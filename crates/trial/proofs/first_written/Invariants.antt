@@ -7,6 +7,3 @@ use Rattle.trial.proofs.first_written.Given as goal
 
 abbrev pub invariant-loop-i : goal.invariant-loop-i
 invariant-loop-i l = first_written l.memory (length l.memory - l.i) l.i ≡ first_written l.memory (length l.memory - l.from) l.from
-
-abbrev pub decreases-loop-i : goal.decreases-loop-i
-decreases-loop-i l = length l.memory - l.i

@@ -9,10 +9,3 @@ abbrev pub invariant-loop-count : goal.invariant-loop-count
 invariant-loop-count l =
     (lives_of l.packed l.place (l.events - l.count) l.count (life l.scene l.memory l.block l.reply) ≡ lives_of l.packed l.place l.events 0 (life (unplayed (get_or l.initial.memory l.place 0)) l.initial.memory l.initial.block l.initial.reply))
     × (l.scene.at ≤ length l.packed)
-    × (l.count ≤ l.events)
-    × (length l.memory ≡ length l.initial.memory)
-    × (length l.block ≡ length l.initial.block)
-    × (length l.reply ≡ length l.initial.reply)
-
-abbrev pub decreases-loop-count : goal.decreases-loop-count
-decreases-loop-count l = l.events - l.count
