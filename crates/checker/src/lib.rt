@@ -154,24 +154,14 @@ struct Onward {
     behind: usize,
 }
 
-// Where it falls, there is no way on.
-fn stuck(device: Device, at: usize) -> Onward
-    ensures { result ≡ record { falls = true; device = device; behind = at } }
-{
-    Onward {
-        falls: true,
-        device,
-        behind: at,
-    }
-}
-
 // The event whose line begins at place `at`, on every board.
 fn advance(board: Board, device: Device, job: &[u8], at: usize, work: &mut [u8]) -> Onward
     requires { Sound board × (length work.old ≡ work_bytes board) × (well_formed board device ≡ true) × Ahead job.now at × (at < length job.now) }
     ensures { Advanced board job.now at device (work_of board work.old) result (work_of board work.new) }
 {
     match text::event_at(job, at) {
-        Item::End | Item::Bad => stuck(device, at),
+        // The text is well formed from there on.
+        Item::End | Item::Bad => unreachable!(),
         Item::Attach { next } => Onward {
             falls: false,
             device: device.attach(board),

@@ -35,12 +35,12 @@ request-step-requires c =
     let x = item_tells _ _ p.3 _ (sym c.event_at.ensures ∙ c.in-Request.is) in
     (p.0, p.1, p.2, x.long, x.digits)
 
-pub returns-in-End : goal.returns-in-End
-returns-in-End c =
+pub unreachable-requires : goal.unreachable-requires
+unreachable-requires c =
     let p = c.requires in
     elim c.in-End.is [
-      | inl e ↦ let past = item_tells _ _ p.3 _ (sym c.event_at.ensures ∙ e) in absurd (omega (arith, past, p.4))
-      | inr e ↦ absurd (item_tells _ _ p.3 _ (sym c.event_at.ensures ∙ e))
+      | inl e ↦ let past = item_tells _ _ p.3 _ (sym c.event_at.ensures ∙ e) in omega (arith, past, p.4)
+      | inr e ↦ item_tells _ _ p.3 _ (sym c.event_at.ensures ∙ e)
     ]
 
 pub returns-in-Attach : goal.returns-in-Attach
