@@ -139,8 +139,7 @@ fn serve(
 {
     let setup = Setup::of(request);
     let command = Command::of(&request[8..]);
-    let decision = decision::decide(device, setup, command);
-    match decision {
+    match decision::decide(device, setup, command) {
         Decision::Silent => answered(device, Answer::Silent),
         Decision::Stall(next) => answered(next, Answer::Stall),
         Decision::Accept(next) => answered(next, Answer::Accepted),
@@ -178,12 +177,11 @@ fn upload(board: Board, device: Device, setup: Setup, memory: &[u8], reply: &mut
 {
     let protected = protection::read_protected(board, memory);
     let count = setup.length;
-    let access = access::examine_block(board, protected, setup.value, count, device.pointer);
-    match access {
+    match access::examine_block(board, protected, setup.value, count, device.pointer) {
         Access::Denied(status) => answered(device.stall(status), Answer::Stall),
-        Access::InFlash(at) => send(device, memory, at, count, reply),
-        Access::InRam(at) => send(device, memory, at, count, reply),
-        Access::InOptions(at) => send(device, memory, at, count, reply),
+        Access::InFlash(at) | Access::InRam(at) | Access::InOptions(at) => {
+            send(device, memory, at, count, reply)
+        }
     }
 }
 
@@ -231,10 +229,7 @@ fn write_status(report: Report, reply: &mut [u8])
 fn poll(state: u8) -> u8
     ensures { result ≡ poll_of state }
 {
-    if state == 4 {
-        return 100;
-    }
-    0
+    if state == 4 { 100 } else { 0 }
 }
 
 // The pending command, if there is one. Otherwise no byte of memory is looked at.
