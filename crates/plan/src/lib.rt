@@ -38,13 +38,12 @@ pub const LOGGER_JOB: usize = Board::LOGGER_PAGES * PAGE_LINES
     + END_LINES;
 
 // Does the card keep the image from being written?
+#[tactic(auto, unfolding(crate::specs::Plan::barred))]
 fn barred(board: Board, image: &[u8], card: &[u8]) -> bool
     ensures { result ≡ barred board image.now card.now }
 {
-    if protection::locked(card, 0) {
-        return true;
-    }
-    protection::any_protected(protection::word(board, card, 0), board.pages_of(image))
+    protection::locked(card, 0)
+        || protection::any_protected(protection::word(board, card, 0), board.pages_of(image))
 }
 
 // How many bytes a block of so many bytes of the image has: a single one gets a second.
@@ -91,10 +90,7 @@ fn command(code: u8, address: u32, out: &mut [u8], at: usize) -> usize
     requires { at + sent_bytes 5 ≤ length out.old }
     ensures { Laid out.old at (polled_text (download 0 (code ∷ four address))) (sent_bytes 5) out.new result }
 {
-    let b0 = (address % 256) as u8;
-    let b1 = (address / 256 % 256) as u8;
-    let b2 = (address / 65536 % 256) as u8;
-    let b3 = (address / 16777216 % 256) as u8;
+    let [b0, b1, b2, b3] = address.to_le_bytes();
     let bytes = [0x21, 1, 0, 0, 0, 0, 5, 0, code, b0, b1, b2, b3];
     send(&bytes, out, at)
 }
@@ -105,8 +101,7 @@ fn block(bytes: &[u8], out: &mut [u8], at: usize) -> usize
     ensures { Laid out.old at (polled_text (download 2 (padded bytes.now))) (sent_bytes (padded_length (length bytes.now))) out.new result }
 {
     let count = padded_length(bytes.len());
-    let low = (count % 256) as u8;
-    let high = (count / 256 % 256) as u8;
+    let [low, high, ..] = count.to_le_bytes();
     let setup = [0x21, 1, 2, 0, 0, 0, low, high];
     // so that what pads a single byte stands here from the start
     let mut request = [0xFFu8; BLOCK_BYTES];
@@ -121,7 +116,7 @@ fn page(board: Board, image: &[u8], page: usize, out: &mut [u8], at: usize) -> u
     ensures { Laid out.old at (page_text board image.now page) (page_lines board image.now page) out.new result }
 {
     let from = board.page_offset(page);
-    let end = buffer::least(from + board.page_bytes(), image.len());
+    let end = (from + board.page_bytes()).min(image.len());
     let address = board.flash_first() + from as u32;
     let erased = command(ERASE, address, out, at);
     let pointed = command(POINT, address, out, erased);
@@ -145,11 +140,9 @@ fn write(board: Board, image: &[u8], out: &mut [u8])
     ensures { out.new ≡ put 0 (plan_of board image.now) out.old }
 {
     let count = board.pages_of(image);
-    let mut number = 0;
     let mut at = 0;
-    while number < count {
+    for number in 0..count {
         at = page(board, image, number, out, at);
-        number += 1;
     }
     leave(board, out, at);
 }

@@ -1,8 +1,10 @@
 -- `plan::page` meets its contract. Assumes nothing.
 use native.Mathlib.Omega.{arith}
 use mathlib.Core.Path.{◌≡◌}
-use Prim.Native.Nat.{◌-◌}
-use lib.ListN.{take, drop}
+use Prim.Native.Nat.{◌+◌, ◌-◌}
+use lib.ListN.{length, take, drop}
+use Rattle.std.proofs.Common.{rules}
+use Rattle.buffer.specs.Least.{least_of}
 use Rattle.plan.specs.Plan.{page_of}
 use Rattle.plan.proofs.Parts.{page_within, page_starts, page_part, page_room, block_room, page_laid}
 use Rattle.plan.proofs.page.Goals as goal
@@ -40,22 +42,26 @@ command-pointed-requires c =
 -- the page's part of the image begins before it ends
 pub slice_bounds-block-count : goal.slice_bounds-block-count
 slice_bounds-block-count c =
+    let end : c.min-end.result ≡ least_of (c.page_offset-from.result + c.page_bytes.result) (length c.args.image.now) = search rules in
     let b = page_within _ c.requires.0 _ _ c.requires.1 c.requires.2 in
-    page_starts c.args.board c.args.image.now c.args.page _ _ _ c.page_offset-from.ensures c.page_bytes.ensures c.least-end.ensures.0 (omega arith)
+    page_starts c.args.board c.args.image.now c.args.page _ _ _ c.page_offset-from.ensures c.page_bytes.ensures end (omega arith)
 
 pub slice_bounds-block-start : goal.slice_bounds-block-start
 slice_bounds-block-start c =
+    let end : c.min-end.result ≡ least_of (c.page_offset-from.result + c.page_bytes.result) (length c.args.image.now) = search rules in
     let b = page_within _ c.requires.0 _ _ c.requires.1 c.requires.2 in
-    page_starts c.args.board c.args.image.now c.args.page _ _ _ c.page_offset-from.ensures c.page_bytes.ensures c.least-end.ensures.0 (omega arith)
+    page_starts c.args.board c.args.image.now c.args.page _ _ _ c.page_offset-from.ensures c.page_bytes.ensures end (omega arith)
 
 -- and holds the page's bytes
 pub block-requires : goal.block-requires
 block-requires c =
-    let part : take (c.least-end.result - c.page_offset-from.result) (drop c.page_offset-from.result c.args.image.now) ≡ page_of c.args.board c.args.image.now c.args.page = page_part _ _ _ _ _ _ c.page_offset-from.ensures c.page_bytes.ensures c.least-end.ensures.0 in
+    let end : c.min-end.result ≡ least_of (c.page_offset-from.result + c.page_bytes.result) (length c.args.image.now) = search rules in
+    let part : take (c.min-end.result - c.page_offset-from.result) (drop c.page_offset-from.result c.args.image.now) ≡ page_of c.args.board c.args.image.now c.args.page = page_part _ _ _ _ _ _ c.page_offset-from.ensures c.page_bytes.ensures end in
     block_room c.args.board c.args.image.now c.args.page c.requires.0 _ _ _ part
     (omega (arith, page_room _ _ _ _ _ c.requires.3, c.command-erased.ensures.1, c.command-erased.auto, c.command-pointed.ensures.1, c.command-pointed.auto))
 
 pub returns : goal.returns
 returns c =
-    let part : take (c.least-end.result - c.page_offset-from.result) (drop c.page_offset-from.result c.args.image.now) ≡ page_of c.args.board c.args.image.now c.args.page = page_part _ _ _ _ _ _ c.page_offset-from.ensures c.page_bytes.ensures c.least-end.ensures.0 in
+    let end : c.min-end.result ≡ least_of (c.page_offset-from.result + c.page_bytes.result) (length c.args.image.now) = search rules in
+    let part : take (c.min-end.result - c.page_offset-from.result) (drop c.page_offset-from.result c.args.image.now) ≡ page_of c.args.board c.args.image.now c.args.page = page_part _ _ _ _ _ _ c.page_offset-from.ensures c.page_bytes.ensures end in
     page_laid _ _ _ _ _ _ _ _ _ _ _ _ _ part (omega arith) c.command-erased.ensures c.command-pointed.ensures c.block.ensures

@@ -9,6 +9,3 @@ use Rattle.plan.proofs.write.Given as goal
 
 abbrev pub invariant-loop-number : goal.invariant-loop-number
 invariant-loop-number l = (sets l.out l.at (rest_text l.board l.image (l.count - l.number) l.number) ≡ sets l.initial.out 0 (plan_of l.board l.image)) × (l.at + length (rest_text l.board l.image (l.count - l.number) l.number) ≡ length (plan_of l.board l.image)) × (length l.out ≡ length l.initial.out)
-
-abbrev pub decreases-loop-number : goal.decreases-loop-number
-decreases-loop-number l = l.count - l.number
