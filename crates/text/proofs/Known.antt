@@ -26,8 +26,8 @@ module _ (t : List ℕ) (at : ℕ) (more : at < length t) (formed : well_spelled
   measured : length (first_line (drop at t)) ≡ line_length (take (length t - at) (drop at t))
   measured = sym (length_good (drop at t) formed) ∙ ap line_length (sym (rest_is at t))
 
-  pub known-attach : get_or t at 0 ≡ 65 → item.Attach (at + 2) ≡ item_of t at
-  known-attach k =
+  pub known_attach : get_or t at 0 ≡ 65 → item.Attach (at + 2) ≡ item_of t at
+  known_attach k =
       let l : length (first_line (drop at t)) ≡ 2 = ap length (attaches (drop at t) formed (kind-here t at ∙ k)).first in
       ap (λ (n : ℕ). item.Attach (at + n)) (sym l) ∙ item_attach t at (length (first_line (drop at t))) more measured (λ z. omega arith) (omega arith)
 
@@ -51,15 +51,15 @@ module _ (t : List ℕ) (at : ℕ) (more : at < length t) (formed : well_spelled
       pub counted : n ≡ length line_asks.b
       counted = count ∙ ap data_length (setup_asked t at line_asks s reads) ∙ asks_data line_asks
 
-      pub known-room : at + 20 + n * 2 ≤ length t
-      known-room =
+      pub known_room : at + 20 + n * 2 ≤ length t
+      known_room =
           let s = asks_size line_asks in
           let d : length (drop at t) ≡ length t - at = length-drop at t in
           let e = counted in
           omega arith
 
-      pub known-request : item.Request s (at + 19) (at + 19 + n * 2 + 1) ≡ item_of t at
-      known-request =
+      pub known_request : item.Request s (at + 19) (at + 19 + n * 2 + 1) ≡ item_of t at
+      known_request =
           let e = counted in
           let l = asks_length line_asks in
           let w : 20 ≤ length (first_line (drop at t)) = omega arith in

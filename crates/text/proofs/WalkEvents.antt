@@ -21,7 +21,7 @@ use Rattle.text.specs.Walk.{item_of}
 use Rattle.line.proofs.Formed.{asks_event, asks_length, asks_whole, asks_body, asks_spells}
 use Rattle.line.proofs.LineLength.{attaches}
 use Rattle.text.proofs.Walking.{some_left, lines_here, setup_asked, item_end}
-use Rattle.text.proofs.Known.{kind-here, known-attach, line_asks, counted, known-request}
+use Rattle.text.proofs.Known.{kind-here, known_attach, line_asks, counted, known_request}
 use Rattle.text.proofs.EventText.{good_first, bad_none}
 
 -- the event e stands at a place, and no line is malformed from the end of its line on
@@ -117,8 +117,8 @@ module _ (t : List ℕ) (at : ℕ) (clean : first_bad (drop at t) ≡ 0) where
       (λ more.
       let f = formed_here more in
       by_eq (get_or t at 0) 65
-      (λ k. rw (sym (known-attach t at more f k)) (attach-here more k))
-      (λ o. rw (sym (known-request t at more f o _ _ refl refl)) (request-here more o _ refl)))
+      (λ k. rw (sym (known_attach t at more f k)) (attach-here more k))
+      (λ o. rw (sym (known_request t at more f o _ _ refl refl)) (request-here more o _ refl)))
       (λ h. rw (sym (item_end t at h)) h)
 
   pub item_tells : (i : Item) → item_of t at ≡ i → Tells t at i

@@ -40,6 +40,7 @@ fn setup(field: &[u8]) -> Setup
 }
 
 // What stands at a place of the text.
+#[tactic(auto, using(crate::proofs::Walking::item_end, crate::proofs::Walking::item_bad, crate::proofs::Walking::item_attach, crate::proofs::Walking::item_request, crate::proofs::Walking::item_digits))]
 pub fn item_at(text: &[u8], at: usize) -> Item
     ensures { result ≡ item_of text.now at }
 {
@@ -63,6 +64,7 @@ pub fn item_at(text: &[u8], at: usize) -> Item
 
 // The event at a place where the text is known to be well formed. A text that was measured before needs no second
 // look at each digit.
+#[tactic(auto, using(crate::proofs::Known::known_attach, crate::proofs::Known::known_setup, crate::proofs::Known::known_digits, crate::proofs::Known::known_room, crate::proofs::Known::known_request))]
 pub fn event_at(text: &[u8], at: usize) -> Item
     requires { (at < length text.now) × (well_spelled (first_line (drop at text.now)) ≡ true) }
     ensures { result ≡ item_of text.now at }
