@@ -15,6 +15,7 @@ use refusal::Refusal;
 use request::Setup;
 
 // How many bytes the event of a line of this length takes when packed.
+#[tactic(auto, unfolding(crate::specs::Ways::packed_size))]
 fn packed_size(line: usize) -> usize
     requires { 1 ≤ line }
     ensures { (result ≡ packed_size line) × (result ≤ line) }
