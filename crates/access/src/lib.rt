@@ -10,7 +10,8 @@ use board::{Board, Place};
 use device::Device;
 use request::Setup;
 
-// What a span may be used for, with its place in the memory buffer.
+// What a span may be used for, with its place in the memory buffer. No Result with the status as its error: to be
+// denied is one of four answers of one rule, which callers take apart at once and never hand on.
 #[derive(Clone, Copy)]
 pub enum Access {
     Denied(u8),

@@ -1,5 +1,6 @@
 // Words go into a lent buffer one behind the other, and each call gives the place behind them. What finds no room is
-// left out, so that no caller has to reckon how long a line becomes.
+// left out, so that no caller has to reckon how long a line becomes. Buffer and place go side by side, in no struct:
+// each function would have to promise besides that the struct keeps its reference.
 #![tactic(auto)]
 
 ghost use Rattle.std.specs.Prelude.{◌≡◌};

@@ -120,7 +120,7 @@ fn byte_in(field: &[u8], i: usize) -> u8
     digit::byte(field[i * 2], field[i * 2 + 1])
 }
 
-// The command that a field of data spells.
+// The command that a field of data spells. Its five bytes are listed: a loop over them would want an invariant.
 #[tactic(auto, unfolding(command::specs::Command::command_of))]
 fn command(field: &[u8]) -> Command
     requires { all_digits field.now ≡ true }

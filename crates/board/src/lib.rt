@@ -12,7 +12,8 @@ ghost use Rattle.board.specs.Span.{place_of, spans, in_flash};
 
 use refusal::Refusal;
 
-// A board is known by its number of flash pages; all else of the layout follows.
+// A board is known by its number of flash pages; all else of the layout follows. That it is sound (`Sound`) is asked
+// for where it is needed, and no type says it: many functions take any board, and the others would open the type.
 #[derive(Clone, Copy)]
 pub struct Board {
     pub pages: u8,

@@ -109,6 +109,7 @@ pub fn fill(file: &mut impl Read, buffer: &mut [u8]) -> Result<usize, Fault>
     ensures { IfOk result (λ count. count ≤ length buffer.new) }
 {
     let mut at = 0;
+    // how far a read comes is known only behind it, so no range counts the places
     while at < buffer.len() {
         let end = more(file, buffer, at)?;
         if end <= at {
@@ -226,7 +227,8 @@ pub fn unreadable(rt: &impl System, unread: Unread, file: Wanted) {
     write(rt, Stream::Err, b"\n", 1);
 }
 
-// Writes the first `count` bytes, or all where there are not so many.
+// Writes the first `count` bytes, or all where there are not so many: what lays out words says a place and not that it
+// lies in the buffer, so that is seen to here, once.
 pub fn write(rt: &impl System, to: Stream, words: &[u8], count: usize) {
     let _ = rt.put(to, &words[0..count.min(words.len())]);
 }

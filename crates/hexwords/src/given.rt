@@ -9,7 +9,7 @@ pub(crate) struct Span {
 }
 
 // What is known behind some lines: the upper half of addresses, and the lowest address of a span that one of them
-// gives, with the line; the span's end, where none does.
+// gives, with the line; the span's end, where none does: with an Option the lowest one would be asked for twice.
 #[derive(Clone, Copy)]
 pub(crate) struct Seen {
     pub upper: u16,

@@ -121,6 +121,7 @@ fn walk(
     let mut number = 1;
     let mut upper = 0;
     let mut end = 0;
+    // how long a line is, only reading it tells, so no range counts the places
     while at < text.len() {
         let Some(line) = record::read(&text[at..], record) else {
             return stopped(Refusal::Record(number), number);
@@ -156,7 +157,7 @@ pub fn read(text: &[u8], out: &mut [u8]) -> Result<usize, Refusal>
 }
 
 // The number of a text's first faulty line, from 1, or 0 where it has none. Where the end record is missing, it is that
-// of the line behind the last.
+// of the line behind the last. 0 and no Option: a caller asks this of a text that was refused, and prints the number.
 pub fn faulty_line(text: &[u8]) -> usize
     ensures { result ≡ faulty_line logger text.now }
 {

@@ -34,6 +34,7 @@ fn scan(text: &[u8]) -> Result<usize, Refusal>
     let mut at = 0;
     let mut number = 1;
     let mut size = 0;
+    // how long a line is, only reading it tells, so no range counts the places
     while at < text.len() {
         let Some(line) = line::line_length(&text[at..]) else {
             return Err(Refusal::Line(number));
@@ -88,6 +89,7 @@ fn pack(text: &[u8], out: &mut [u8])
 {
     let mut from = 0;
     let mut to = 0;
+    // as in `scan`
     while from < text.len() {
         let line = pack_line(&text[from..], out, to);
         to += packed_size(line);

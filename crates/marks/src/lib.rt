@@ -1,5 +1,8 @@
 // The work area: a value and a mark for each byte of memory, and the block that waits to be written. A mark says that
 // every board is known to hold the value. What a mark is, and where the three stand, is known here alone.
+//
+// Board and work area are handed on side by side. In a struct with a ghost field for the length, tried, each function
+// that writes has to promise besides that the struct keeps its board and its reference: two clauses for one premise.
 #![tactic(auto)]
 
 ghost use Rattle.std.specs.Prelude.{◌≡◌, ◌+◌, ◌-◌, ◌≤◌, ◌<◌, length, get_or};

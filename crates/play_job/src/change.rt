@@ -33,6 +33,7 @@ pub(crate) fn list(old: &[u8], new: &[u8], lead: Lead, out: &mut [u8], at: usize
     let all = board.memory_bytes();
     let mut end = at;
     let mut place = compare::first_change(old, new, 0, all);
+    // where the next part that differs begins is known only behind this one
     while place < all {
         let stretch = board.stretch_at(place);
         end = sentence::fill(

@@ -21,7 +21,7 @@ enum What {
     Astray,
 }
 
-// A deed with the block and so many bytes from an address on; a count of 0 stands for none.
+// A deed with the block and so many bytes from an address on; a count of 0 stands for none: the sentence picks by it.
 #[derive(Clone, Copy)]
 pub struct Deed {
     what: What,

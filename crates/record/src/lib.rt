@@ -14,7 +14,7 @@ pub const FRAME: usize = HEAD + 1;
 
 pub const ROOM: usize = FRAME + 255;
 
-// The types that are read.
+// The types that are read: bytes, and no enum, since they are compared with a byte of the record and written as one.
 pub const DATA: u8 = 0;
 
 pub const END: u8 = 1;

@@ -28,7 +28,8 @@ pub enum Refusal {
 }
 
 impl Refusal {
-    // The number that documents, programs and people use.
+    // The number that documents, programs and people use. No `From`: a refusal has a line too, and `u8::from(why)`
+    // would not say which of the two it is.
     pub fn number(self) -> u8
         ensures { result ≡ number_of self }
     {
@@ -54,7 +55,8 @@ impl Refusal {
         }
     }
 
-    // The line of the text that is at fault, from 1, or 0 where the refusal names none.
+    // The line of the text that is at fault, from 1, or 0 where the refusal names none: so the report line prints it,
+    // and each caller would unwrap an Option.
     pub fn line(self) -> usize
         ensures { result ≡ line_named self }
     {

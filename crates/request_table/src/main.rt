@@ -8,7 +8,7 @@ use request::Request;
 // Room for a line.
 const ROOM: usize = 128;
 
-// A line of the table: the names of the requests, or a mode with its answers.
+// A line of the table: the names of the requests, or a mode with its answers. An Option of a mode would not say which.
 #[derive(Clone, Copy)]
 enum Line {
     Names,

@@ -63,7 +63,7 @@ pub fn item_at(text: &[u8], at: usize) -> Item
 }
 
 // The event at a place where the text is known to be well formed. A text that was measured before needs no second
-// look at each digit.
+// look at each digit. An Item here too, and never End or Bad: a type of its own would be a second word for `item_of`.
 #[tactic(auto, using(crate::proofs::Known::known_attach, crate::proofs::Known::known_setup, crate::proofs::Known::known_digits, crate::proofs::Known::known_room, crate::proofs::Known::known_request))]
 pub fn event_at(text: &[u8], at: usize) -> Item
     requires { (at < length text.now) × (well_spelled (first_line (drop at text.now)) ≡ true) }

@@ -18,7 +18,7 @@ use request::Setup;
 const TRANSFER: usize = Setup::TRANSFER as usize;
 
 // The board after `count` events, the next of which is at place `at` of the packed job. An event's number is the number
-// of its line, and 0 stands for no line.
+// of its line, and 0 stands for no line. No Option: these numbers are compared and printed, and nothing else.
 //
 // `byte` is the byte that is watched; the last line that changed it, and the one before that which did; the last line
 // that moved the pointer, and the last by which the loader leaves, or stays after all. Then, of the memory: is it

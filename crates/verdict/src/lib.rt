@@ -13,7 +13,7 @@ pub enum Verdict {
     Pass,
     // The event, from 1, that fails on some board.
     Event(usize),
-    // The end condition that fails.
+    // The end condition that fails, by the number that the report line prints: no enum, which would only be numbered.
     End(u8),
     // The lowest flash offset that is wrong on some board.
     Flash(usize),
