@@ -47,6 +47,7 @@ fn barred(board: Board, image: &[u8], card: &[u8]) -> bool
 }
 
 // How many bytes a block of so many bytes of the image has: a single one gets a second.
+#[tactic(auto, unfolding(crate::specs::Parts::padded_length))]
 fn padded_length(count: usize) -> usize
     ensures { result ≡ padded_length count }
 {
@@ -54,6 +55,7 @@ fn padded_length(count: usize) -> usize
 }
 
 // How long the plan is.
+#[tactic(auto, using(crate::proofs::Length::image_small, crate::proofs::Length::size_one))]
 fn size(board: Board, image: &[u8]) -> usize
     requires { Sound board × (length image.now ≤ flash_bytes board) }
     ensures { result ≡ length (plan_of board image.now) }

@@ -6,27 +6,17 @@ use lib.ListN.{get_or}
 use Rattle.std.proofs.Common.{rules}
 use Rattle.request.specs.Request.{transfer_bytes}
 use Rattle.plan.proofs.Lines.{padded_at_most}
-use Rattle.plan.proofs.BlockBytes.{block-fits, block-laid}
+use Rattle.plan.proofs.BlockBytes.{block-laid}
 use Rattle.plan.proofs.block.Goals as goal
 
 -- a transfer takes a padded byte
 two : 2 ≤ transfer_bytes
 two = omega arith
 
-pub overflow_add-count : goal.overflow_add-count
-overflow_add-count c =
-    let h = padded_at_most _ _ two c.requires.0 in
-    omega arith
-
 pub slice_bounds-send-end : goal.slice_bounds-send-end
 slice_bounds-send-end c =
     let h = padded_at_most _ _ two c.requires.0 in
     omega arith
-
-pub send-requires : goal.send-requires
-send-requires c =
-    let h = padded_at_most _ _ two c.requires.0 in
-    block-fits c.args.bytes.now _ _ _ _ c.padded_length-count.ensures (omega arith) c.requires.1
 
 pub returns : goal.returns
 returns c =
