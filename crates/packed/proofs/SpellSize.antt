@@ -44,12 +44,6 @@ capped_piece size piece h =
     let e : piece * 2 + 2 ≡ line_size piece = line_size_long piece k in
     capped-over (size + line_size piece) (omega arith)
 
-pub longer_over : (size line piece : ℕ) → line ≡ line_size piece → limit < size + line → limit + 1 ≡ capped (size + line_size piece)
-longer_over size line piece e h = capped-over (size + line) h ∙ ap (λ (n : ℕ). capped (size + n)) e
-
-pub longer_within : (size line piece : ℕ) → line ≡ line_size piece → size + line ≤ limit → size + line ≡ capped (size + line_size piece)
-longer_within size line piece e h = capped-within (size + line) h ∙ ap (λ (n : ℕ). capped (size + n)) e
-
 capped-more : (a b : ℕ) → capped (capped a + b) ≡ capped (a + b)
 capped-more a b =
     by_lt limit a

@@ -1,10 +1,10 @@
 -- The bytes of a block's DNLOAD, laid into a request that holds 0xFF all over. Assumes nothing.
 use mathlib.Core.Path.{◌≡◌, refl, ap, ◌∙◌, sym}
 use mathlib.Core.List.{List, [], ◌∷◌, ◌++◌}
-use Prim.Native.Nat.{ℕ, ◌+◌, ◌-◌, ◌/◌, ◌%◌, ◌≤◌}
+use Prim.Native.Nat.{ℕ, ◌+◌, ◌-◌, ◌/◌, ◌%◌}
 use native.Mathlib.Omega.{arith}
 use lib.ListN.{length, take, drop, replicate}
-use lib.Seq.{sets, take-append_seam, take-append-add, length-take-le}
+use lib.Seq.{sets, take-append_seam, take-append-add}
 use borrow.Author.Tests.{eq-eqb, ne_eqb}
 use Rattle.laws.specs.Bytes.{put}
 use Rattle.laws.proofs.Bytes.{put_seam}
@@ -31,12 +31,6 @@ padded-front xs =
     by_eq (length xs) 1
     (λ h. rw (eq-eqb (length xs) 1 h, ← padded_one (length xs) h) (single xs h))
     (λ h. rw (ne_eqb (length xs) 1 h, ← padded-more (length xs) h) (take-append_seam xs (drop (length xs) filler)))
-
--- the request that is sent takes the room that there is
-pub block-fits : (xs m : List ℕ) (count at n : ℕ) → count ≡ padded_length (length xs) → 8 + count ≤ length m → at + sent_bytes (padded_length (length xs)) ≤ n → (8 ≤ length (take (8 + count - 0) m)) × (at + sent_bytes (length (take (8 + count - 0) m) - 8) ≤ n)
-block-fits xs m count at n is h room =
-    let l : length (take (8 + count - 0) m) ≡ 8 + count - 0 = length-take-le (8 + count - 0) m (omega arith) in
-    (omega arith, omega arith)
 
 module _ (xs m₁ m₂ : List ℕ) (count : ℕ) (is : count ≡ padded_length (length xs)) (first : m₁ ≡ put 0 (0x21 ∷ 1 ∷ 2 ∷ 0 ∷ 0 ∷ 0 ∷ count % 256 ∷ count / 256 % 256 ∷ []) (replicate (8 + transfer_bytes) 255)) (second : m₂ ≡ put 8 xs m₁) where
   head : List ℕ

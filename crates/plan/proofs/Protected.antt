@@ -1,6 +1,6 @@
 -- What bars an image, by its two tests. Assumes nothing.
 use mathlib.Core.Path.{◌≡◌}
-use mathlib.Core.Bool.{Bool, true, false}
+use mathlib.Core.Bool.{false}
 use mathlib.Core.List.{List}
 use Prim.Native.Nat.{ℕ}
 use lib.ListN.{length}
@@ -11,14 +11,6 @@ use Rattle.protection.specs.Protection.{locked_from, word_from, any_protected}
 use Rattle.plan.specs.Plan.{barred}
 
 module _ (board : Board) (image card : List ℕ) where
-  pub barred_locked : locked_from 0 card ≡ true → true ≡ barred board image card
-  unfolding barred
-  barred_locked h = rw h
-
-  pub barred-pages : (word count : ℕ) (r : Bool) → locked_from 0 card ≡ false → word ≡ word_from board 0 card → count ≡ pages_of board (length image) → r ≡ any_protected word count 0 → r ≡ barred board image card
-  unfolding barred
-  barred-pages word count r h w c e = rw (h, ← w, ← c) e
-
   pub barred_parts : barred board image card ≡ false → (locked_from 0 card ≡ false) × (any_protected (word_from board 0 card) (pages_of board (length image)) 0 ≡ false)
   unfolding barred
   barred_parts e = or_false (locked_from 0 card) (any_protected (word_from board 0 card) (pages_of board (length image)) 0) e
