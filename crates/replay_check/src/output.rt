@@ -13,7 +13,11 @@ fn shown(size: usize, is_refused: bool) -> usize
     if ROOM < size {
         return 0;
     }
-    if is_refused { size.saturating_sub(1) } else { size }
+    if is_refused {
+        size.saturating_sub(1)
+    } else {
+        size
+    }
 }
 
 fn print_digest(rt: &impl Print, work: &[u8]) {
