@@ -5,7 +5,7 @@
 
 mod vector;
 
-ghost use Rattle.std.specs.Prelude.{◌≤◌, length};
+ghost use Rattle.std.specs.Prelude.{◌≡◌, ◌<◌, ◌≤◌, length};
 ghost use Rattle.feed.specs.Feed.{Loaded};
 
 use std::fs::File;
@@ -52,6 +52,7 @@ pub fn next(feed: &mut Feed, head: &mut [u8]) -> bool {
 // Takes turns until one finds nothing more, in the file or elsewhere; gives how many found something.
 pub fn turns<F: FnMut() -> bool>(mut turn: F) -> usize
     requires { F.IsAlwaysCallable turn }
+    ensures { result ≤ MOST }
 {
     for count in 0..MOST {
         if !turn() {
@@ -81,6 +82,8 @@ pub fn lend<F: FnOnce(&mut [u8], &mut [u8])>(
     call: F,
 )
     requires { F.IsAlwaysCallable call }
+    ensures input_unlent { length input.old < size → input.new ≡ input.old }
+    ensures out_unlent { length out.old < room → out.new ≡ out.old }
 {
     if size <= input.len() && room <= out.len() {
         call(&mut input[0..size], &mut out[0..room]);

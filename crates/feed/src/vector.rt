@@ -1,4 +1,7 @@
 // The vectors about a text and its bytes: a head of 16 bytes, numbers low byte first, and a body behind it.
+ghost use Rattle.std.specs.Prelude.{◌≡◌, ◌%◌, get_or};
+ghost use Rattle.numbers.specs.Numbers.{pair_of, quad_of};
+
 use crate::Feed;
 use buffer::byte_at;
 use numbers::{pair, quad};
@@ -40,7 +43,12 @@ impl Vector {
     // The bytes of a head.
     pub const HEAD: usize = 16;
 
-    pub fn of(head: &[u8]) -> Vector {
+    // A head taken apart.
+    pub fn of(head: &[u8]) -> Vector
+        ensures bytes { (result.seed ≡ get_or head.now 1 0) × (result.byte ≡ get_or head.now 15 0) }
+        ensures lengths { (result.body ≡ pair_of head.now 2) × (result.size ≡ quad_of head.now 4) × (result.room ≡ quad_of head.now 8) }
+        ensures place { result.place ≡ quad_of head.now 12 % 0x100_0000 }
+    {
         Vector {
             kind: Kind::from(byte_at(head, 0)),
             seed: byte_at(head, 1),
