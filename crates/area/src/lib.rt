@@ -1,4 +1,5 @@
-// What each request does to the work area, that is, on every board at once.
+// What each request does to the work area, that is, on every board at once: the device with which all boards go on, or
+// none where the request falls, that is, fails on some board.
 #![tactic(auto)]
 
 ghost use Rattle.std.specs.Prelude.{◌≡◌, true, false, ◌*◌, ◌<◌, length, get_or};
@@ -24,32 +25,6 @@ use device::{Device, Ran};
 use mode::Mode;
 use request::Setup;
 
-// What an event comes to: it falls, that is, fails on some board; or all boards go on alike, with this device. A
-// struct, since the compiler takes an enum with a device in it apart and puts it together again at each event.
-#[derive(Clone, Copy)]
-pub struct Step {
-    pub falls: bool,
-    pub device: Device,
-}
-
-fn falling(device: Device) -> Step
-    ensures { result ≡ record { falls = true; device = device } }
-{
-    Step {
-        falls: true,
-        device,
-    }
-}
-
-fn going(device: Device) -> Step
-    ensures { result ≡ record { falls = false; device = device } }
-{
-    Step {
-        falls: false,
-        device,
-    }
-}
-
 // Is reading and writing forbidden on every board?
 fn read_protected(board: Board, work: &[u8]) -> bool
     requires { length work.now ≡ work_bytes board }
@@ -69,7 +44,7 @@ pub fn due(board: Board, device: Device, setup: Setup, work: &[u8]) -> Action
 
 // GETSTATUS: what is pending runs on every board.
 #[tactic(auto, unfolding(cells::specs::Cells::status_moves, action::specs::Action::status_action))]
-fn status(board: Board, device: Device, work: &mut [u8]) -> Step
+fn status(board: Board, device: Device, work: &mut [u8]) -> Option<Device>
     requires { Sound board × (length work.old ≡ work_bytes board) × (well_formed board device ≡ true) }
     ensures { moved_as result (work_of board work.new) ≡ status_moves board device (work_of board work.old) }
 {
@@ -82,28 +57,28 @@ fn status(board: Board, device: Device, work: &mut [u8]) -> Step
     report(device, action.ran(device.pointer, status))
 }
 
-fn report(device: Device, ran: Ran) -> Step
+fn report(device: Device, ran: Ran) -> Option<Device>
     ensures { (w : Work) → moved_as result w ≡ reports device ran w }
 {
     let told = device.report(ran);
     if told.status == 0 {
-        going(device.status(ran))
+        Some(device.status(ran))
     } else {
-        falling(device)
+        None
     }
 }
 
 // UPLOAD of memory: only whether the checks allow it can differ, and they do not look at flash or RAM.
 #[tactic(auto, unfolding(cells::specs::Cells::reads_moves))]
-fn upload(board: Board, device: Device, setup: Setup, work: &[u8]) -> Step
+fn upload(board: Board, device: Device, setup: Setup, work: &[u8]) -> Option<Device>
     requires { length work.now ≡ work_bytes board }
     ensures { moved_as result (work_of board work.now) ≡ reads_moves board device setup (work_of board work.now) }
 {
     let protected = read_protected(board, work);
     match access::examine_block(board, protected, setup.value, setup.length, device.pointer) {
-        Access::Denied(_) => falling(device),
+        Access::Denied(_) => None,
         Access::InFlash(_) | Access::InRam(_) | Access::InOptions(_) => {
-            going(device.enter(Mode::UploadIdle))
+            Some(device.enter(Mode::UploadIdle))
         }
     }
 }
@@ -139,7 +114,13 @@ fn command(field: &[u8]) -> Command
 // A request on every board; `field` holds its data as digits. GETSTATUS is looked for first: it is the most frequent,
 // and has no data.
 #[tactic(auto, using(decision::proofs::Asking::only_status), unfolding(cells::specs::Cells::request_moves))]
-pub fn request(board: Board, device: Device, setup: Setup, field: &[u8], work: &mut [u8]) -> Step
+pub fn request(
+    board: Board,
+    device: Device,
+    setup: Setup,
+    field: &[u8],
+    work: &mut [u8],
+) -> Option<Device>
     requires { Sound board × (length work.old ≡ work_bytes board) × (well_formed board device ≡ true) × (length field.now ≡ data_length setup * 2) × (all_digits field.now ≡ true) }
     ensures { moved_as result (work_of board work.new) ≡ request_moves board device setup (bytes_of field.now) (work_of board work.old) }
 {
@@ -151,19 +132,25 @@ pub fn request(board: Board, device: Device, setup: Setup, field: &[u8], work: &
 
 // A request that does not come to Status.
 #[tactic(auto, unfolding(cells::specs::Cells::request_moves))]
-fn decided(board: Board, device: Device, setup: Setup, field: &[u8], work: &mut [u8]) -> Step
+fn decided(
+    board: Board,
+    device: Device,
+    setup: Setup,
+    field: &[u8],
+    work: &mut [u8],
+) -> Option<Device>
     requires { (length work.old ≡ work_bytes board) × (length field.now ≡ data_length setup * 2) × (all_digits field.now ≡ true) × ((k : Command) → is_status (decide_of device setup k) ≡ false) }
     ensures { moved_as result (work_of board work.new) ≡ request_moves board device setup (bytes_of field.now) (work_of board work.old) }
 {
     match decision::decide(device, setup, command(field)) {
-        Decision::Silent | Decision::Stall(_) => falling(device),
-        Decision::Accept(next) | Decision::Commands { next, count: _ } => going(next),
+        Decision::Silent | Decision::Stall(_) => None,
+        Decision::Accept(next) | Decision::Commands { next, count: _ } => Some(next),
         Decision::Take(next) => {
             hexfield::decode(field, work, marks::block_from(board));
-            going(next)
+            Some(next)
         }
         Decision::Read => upload(board, device, setup, work),
-        Decision::State => going(device),
+        Decision::State => Some(device),
         // It was asked for before.
         Decision::Status => unreachable!(),
     }

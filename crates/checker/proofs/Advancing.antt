@@ -1,6 +1,6 @@
 -- The walk over a job's text: one event further, or one that fails. Assumes nothing.
-use mathlib.Core.Path.{◌≡◌, refl, ap, ap₂, ◌∙◌, sym}
-use mathlib.Core.Bool.{Bool, true, false, cond, false≢true}
+use mathlib.Core.Path.{◌≡◌, refl, ap, ap₂, ◌∙◌, sym, subst}
+use mathlib.Core.Bool.{true}
 use mathlib.Core.List.{List}
 use Prim.Native.Nat.{ℕ, suc, ◌+◌, ◌-◌, ◌≤◌}
 use native.Mathlib.Numerals.{add-one}
@@ -20,10 +20,24 @@ use Rattle.marks.specs.Work.{Work}
 use Rattle.cells.specs.Cells.{falls, goes, request_moves, moves}
 use Rattle.judgement.specs.Judgement.{Over, fell, ended, over_of}
 use Rattle.cells.proofs.InForm.{moves-form}
-use Rattle.area.specs.declared.Step.{Step}
+use Rattle.std.specs.Prelude.{Option, None, Some}
 use Rattle.checker.specs.declared.Onward.{Onward}
 use Rattle.checker.specs.Walk.{Further, Advanced}
 use Rattle.area.specs.Moved.{moved_as}
+
+-- an event that fails, and one that leaves a way on
+module _ (board : Board) (t : List ℕ) (at : ℕ) (d : Device) (w w' : Work) where
+  no_way : ((k : ℕ) → over_of board (events_of (drop at t)) d w k ≡ fell (suc k)) → Advanced board t at d w None w'
+  no_way f = record { fallen = λ z. f; further = λ o z. absurd (cc) }
+
+  one_way : (o : Onward) → Further board t at d w o.device o.behind w' → Advanced board t at d w (Some o) w'
+  one_way o f =
+      record {
+        fallen = λ z. absurd (cc);
+        further = λ p z.
+            let same : o ≡ p = cc in
+            subst (λ (y : Onward). Further board t at d w y.device y.behind w') same f;
+      }
 
 -- the event e at a place, and what stands beyond its line
 module _ (board : Board) (t : List ℕ) (at : ℕ) (d : Device) (w : Work) where
@@ -45,33 +59,33 @@ module _ (board : Board) (t : List ℕ) (at : ℕ) (d : Device) (w : Work) where
           form = well_formed_lem board d' (moves-form board d w e d' w' sound (form_of board d f) m);
         }
 
-    pub attach_advanced : (next : ℕ) (d' : Device) → Beyond t at attach next → d' ≡ started board → Advanced board t at d w (record { falls = false; device = d'; behind = next }) w
+    pub attach_advanced : (next : ℕ) (d' : Device) → Beyond t at attach next → d' ≡ started board → Advanced board t at d w (Some (record { device = d'; behind = next })) w
     unfolding moves
     attach_advanced next d' o e =
-        rw e (record { fallen = λ z. absurd (false≢true z); further = λ z. further attach next o (started board) w refl })
+        rw e (one_way board t at d w w (record { device = started board; behind = next }) (further attach next o (started board) w refl))
 
   -- a request, with what the step g made of it and of the work area
-  module _ (s : Setup) (data-at next : ℕ) (x : Requested t at s data-at next) (g : Step) (w' : Work) (did : moved_as g w' ≡ request_moves board d s (bytes_of (take (next - 1 - data-at) (drop data-at t))) w) where
-    moves_as : (b : Bool) → g.falls ≡ b → moves board d w (request x.bytes) ≡ cond b falls (goes g.device w')
+  module _ (s : Setup) (data-at next : ℕ) (x : Requested t at s data-at next) (g : Option Device) (w' : Work) (did : moved_as g w' ≡ request_moves board d s (bytes_of (take (next - 1 - data-at) (drop data-at t))) w) where
+    moves_as : (r : Option Device) → g ≡ r → moves board d w (request x.bytes) ≡ moved_as r w'
     unfolding moves
-    moves_as b e =
+    moves_as r e =
         ap₂ (λ (y : Setup) (xs : List ℕ). request_moves board d y xs w) (sym x.asked) (sym x.spells)
-        ∙ sym did ∙ ap (λ (z : Bool). cond z falls (goes g.device w')) e
+        ∙ sym did ∙ ap (λ (z : Option Device). moved_as z w') e
 
-    pub request_advanced : Sound board → well_formed board d ≡ true → Advanced board t at d w (record { falls = g.falls; device = g.device; behind = next }) w'
-    request_advanced sound f =
-        record {
-          fallen = λ z. fallen (request x.bytes) next x.onward (moves_as true z);
-          further = λ z. further sound f (request x.bytes) next x.onward g.device w' (moves_as false z);
-        }
+    pub request_fallen : (r : Option Onward) → g ≡ None → r ≡ None → Advanced board t at d w r w'
+    request_fallen r e is = rw is (no_way board t at d w w' (fallen (request x.bytes) next x.onward (moves_as None e)))
+
+    pub request_further : Sound board → well_formed board d ≡ true → (d' : Device) → g ≡ Some d' → Advanced board t at d w (Some (record { device = d'; behind = next })) w'
+    request_further sound f d' e =
+        one_way board t at d w w' (record { device = d'; behind = next }) (further sound f (request x.bytes) next x.onward d' w' (moves_as (Some d') e))
 
 -- a run over the events in turn, after k of them
-module _ (board : Board) (t : List ℕ) (at : ℕ) (d : Device) (w : Work) (k : ℕ) (r : Onward) (w' : Work) (o : Over) (did : Advanced board t at d w r w') (so : over_of board (events_of (drop at t)) d w k ≡ o) where
-  pub run-fell : r.falls ≡ true → fell (k + 1) ≡ o
+module _ (board : Board) (t : List ℕ) (at : ℕ) (d : Device) (w : Work) (k : ℕ) (r : Option Onward) (w' : Work) (o : Over) (did : Advanced board t at d w r w') (so : over_of board (events_of (drop at t)) d w k ≡ o) where
+  pub run-fell : r ≡ None → fell (k + 1) ≡ o
   run-fell is = ap fell (add-one k) ∙ sym (did.fallen is k) ∙ so
 
-  pub run_on : r.falls ≡ false → over_of board (events_of (drop r.behind t)) r.device w' (k + 1) ≡ o
-  run_on is = rw (add-one k) (sym ((did.further is).over k) ∙ so)
+  pub run_on : (p : Onward) → r ≡ Some p → over_of board (events_of (drop p.behind t)) p.device w' (k + 1) ≡ o
+  run_on p is = rw (add-one k) (sym ((did.further p is).over k) ∙ so)
 
 -- at the end of the text no event is left
 pub run-over : (board : Board) (t : List ℕ) (at : ℕ) (d : Device) (w : Work) (k : ℕ) (o : Over) → length t ≤ at → over_of board (events_of (drop at t)) d w k ≡ o → ended d w ≡ o

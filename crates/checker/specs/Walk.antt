@@ -1,5 +1,5 @@
 -- How what the checker's inner functions answer is read: a device of the proof, which no public promise names. Assumes nothing.
-use Rattle.std.specs.Prelude.{◌≡◌, true, false, List, ℕ, suc, ◌≤◌, ◌<◌, length, drop, get_or, Result, Ok, Err}
+use Rattle.std.specs.Prelude.{◌≡◌, true, List, ℕ, suc, ◌≤◌, ◌<◌, length, drop, get_or, Option, None, Some, Result, Ok, Err}
 use Rattle.board.specs.declared.Board.{Board}
 use Rattle.board.specs.Memory.{flash_at}
 use Rattle.device.specs.declared.Device.{Device}
@@ -22,9 +22,9 @@ pub record Further (board : Board) (t : List ℕ) (at : ℕ) (d : Device) (w : W
   pub form : well_formed board d' ≡ true
 
 -- where the event falls, the whole does with it; otherwise it goes on behind the event
-pub record Advanced (board : Board) (t : List ℕ) (at : ℕ) (d : Device) (w : Work) (r : Onward) (w' : Work) : Type 0 where
-  pub fallen : r.falls ≡ true → (k : ℕ) → over_of board (events_of (drop at t)) d w k ≡ fell (suc k)
-  pub further : r.falls ≡ false → Further board t at d w r.device r.behind w'
+pub record Advanced (board : Board) (t : List ℕ) (at : ℕ) (d : Device) (w : Work) (r : Option Onward) (w' : Work) : Type 0 where
+  pub fallen : r ≡ None → (k : ℕ) → over_of board (events_of (drop at t)) d w k ≡ fell (suc k)
+  pub further : (o : Onward) → r ≡ Some o → Further board t at d w o.device o.behind w'
 
 -- a run's outcome, with the work area that it left
 abbrev pub over_as : Result Device ℕ → Work → Over

@@ -145,35 +145,31 @@ fn end_fault(board: Board, device: Device, same: bool) -> Option<u8>
     }
 }
 
-// How far the next event of a job brings all boards; `behind` is where the line after it begins. A flag and no Option,
-// as area::Step.
+// How far an event of a job brings all boards; `behind` is where the line after it begins.
 #[derive(Clone, Copy)]
 struct Onward {
-    falls: bool,
     device: Device,
     behind: usize,
 }
 
-// The event whose line begins at place `at`, on every board.
-fn advance(board: Board, device: Device, job: &[u8], at: usize, work: &mut [u8]) -> Onward
+// The event whose line begins at place `at`, on every board; none where it falls.
+fn advance(board: Board, device: Device, job: &[u8], at: usize, work: &mut [u8]) -> Option<Onward>
     requires { Sound board × (length work.old ≡ work_bytes board) × (well_formed board device ≡ true) × Ahead job.now at × (at < length job.now) }
     ensures { Advanced board job.now at device (work_of board work.old) result (work_of board work.new) }
 {
     match text::event_at(job, at) {
         // The text is well formed from there on.
         Item::End | Item::Bad => unreachable!(),
-        Item::Attach { next } => Onward {
-            falls: false,
+        Item::Attach { next } => Some(Onward {
             device: device.attach(board),
             behind: next,
-        },
+        }),
         Item::Request { setup, data, next } => {
-            let step = area::request(board, device, setup, &job[data..next - 1], work);
-            Onward {
-                falls: step.falls,
-                device: step.device,
+            let device = area::request(board, device, setup, &job[data..next - 1], work)?;
+            Some(Onward {
+                device,
                 behind: next,
-            }
+            })
         }
     }
 }
@@ -186,13 +182,10 @@ fn run(board: Board, job: &[u8], work: &mut [u8]) -> Result<Device, usize>
 {
     let mut device = Device::start(board);
     let mut at = 0;
-    let mut events = 0;
+    let mut events: usize = 0;
     while at < job.len() {
-        let onward = advance(board, device, job, at, work);
         events += 1;
-        if onward.falls {
-            return Err(events);
-        }
+        let onward = advance(board, device, job, at, work).ok_or(events)?;
         device = onward.device;
         at = onward.behind;
     }

@@ -2,8 +2,9 @@
 use mathlib.Core.Path.{◌∙◌, sym}
 use mathlib.Core.Logic.{inl, inr}
 use native.Mathlib.Omega.{arith}
+use Rattle.std.proofs.Common.{rules}
 use Rattle.text.proofs.WalkEvents.{formed_here, item_tells}
-use Rattle.checker.proofs.Advancing.{attach_advanced, request_advanced}
+use Rattle.checker.proofs.Advancing.{attach_advanced, request_fallen, request_further}
 use Rattle.checker.proofs.advance.Goals as goal
 
 pub event_at-requires : goal.event_at-requires
@@ -29,8 +30,8 @@ slice_bounds-request-end c =
     let x = item_tells _ _ c.requires.3 _ (sym c.event_at.ensures ∙ c.in-Request.is) in
     omega (arith, x.onward.within)
 
-pub request-step-requires : goal.request-step-requires
-request-step-requires c =
+pub request-requires : goal.request-requires
+request-requires c =
     let p = c.requires in
     let x = item_tells _ _ p.3 _ (sym c.event_at.ensures ∙ c.in-Request.is) in
     (p.0, p.1, p.2, x.long, x.digits)
@@ -48,7 +49,11 @@ returns-in-Attach c =
     let p = c.requires in
     attach_advanced _ _ _ _ _ p.0 p.2 _ _ (item_tells _ _ p.3 _ (sym c.event_at.ensures ∙ c.in-Attach.is)) c.attach.ensures
 
-pub returns-in-Request : goal.returns-in-Request
-returns-in-Request c =
+pub returns-in_err-device-in-Request : goal.returns-in_err-device-in-Request
+returns-in_err-device-in-Request c =
+    request_fallen _ _ _ _ _ _ _ _ (item_tells _ _ c.requires.3 _ (sym c.event_at.ensures ∙ c.in-Request.is)) _ _ c.request.ensures _ c.in_err-device-in-Request.was (search rules)
+
+pub returns-in_ok-device-in-Request : goal.returns-in_ok-device-in-Request
+returns-in_ok-device-in-Request c =
     let p = c.requires in
-    request_advanced _ _ _ _ _ _ _ _ (item_tells _ _ p.3 _ (sym c.event_at.ensures ∙ c.in-Request.is)) _ _ c.request-step.ensures p.0 p.2
+    request_further _ _ _ _ _ _ _ _ (item_tells _ _ p.3 _ (sym c.event_at.ensures ∙ c.in-Request.is)) _ _ c.request.ensures p.0 p.2 _ c.in_ok-device-in-Request.was

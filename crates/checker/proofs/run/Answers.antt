@@ -2,7 +2,7 @@
 use native.Mathlib.Omega.{arith}
 use Rattle.states.proofs.Form.{well_formed_lem}
 use Rattle.states.proofs.Form.{started-form}
-use Rattle.checker.proofs.Advancing.{run-fell, run_on, run-over}
+use Rattle.checker.proofs.Advancing.{run_on, run-over}
 use Rattle.checker.proofs.run.Goals as goal
 
 pub start-device-requires : goal.start-device-requires
@@ -13,28 +13,26 @@ loop-at-init c =
     let p = c.requires in
     (rw c.start-device.ensures, p.1, rw c.start-device.ensures (well_formed_lem _ _ (started-form _ p.0)), p.2, omega arith, omega arith)
 
-pub advance-onward-requires : goal.advance-onward-requires
-advance-onward-requires c =
+pub advance-requires : goal.advance-requires
+advance-requires c =
     let l = c.loop-at.invariant in
     (c.requires.0, l.1, l.2, l.3, c.loop-at-test.true)
 
 pub overflow_add-events : goal.overflow_add-events
 overflow_add-events c = omega (arith, c.loop-at-test.true, c.loop-at.invariant.5, c.loop-at.invariant.4)
 
-pub returns-then-onward : goal.returns-then-onward
-returns-then-onward c = run-fell _ _ _ _ _ _ _ _ _ c.advance-onward.ensures c.loop-at.invariant.0 c.if-onward.true
-
 pub loop-at-smaller : goal.loop-at-smaller
 loop-at-smaller c =
-    let f = c.advance-onward.ensures.further c.if-onward.false in
+    let f = c.advance.ensures.further _ (rw c.in_ok-onward.was at c.ok_or.ensures.ok_part) in
     omega (arith, f.more, f.within)
 
 pub loop-at-preserved : goal.loop-at-preserved
 loop-at-preserved c =
     let l = c.loop-at in
-    let f = c.advance-onward.ensures.further c.if-onward.false in (
-      run_on _ _ _ _ _ _ _ _ _ c.advance-onward.ensures l.invariant.0 c.if-onward.false,
-      omega (arith, c.advance-onward.auto, l.invariant.1),
+    let way = rw c.in_ok-onward.was at c.ok_or.ensures.ok_part in
+    let f = c.advance.ensures.further _ way in (
+      run_on _ _ _ _ _ _ _ _ _ c.advance.ensures l.invariant.0 _ way,
+      omega (arith, c.advance.auto, l.invariant.1),
       f.form,
       f.ahead,
       f.within,
