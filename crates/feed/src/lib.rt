@@ -62,8 +62,8 @@ pub fn turns<F: FnMut() -> bool>(mut turn: F) -> usize
     MOST
 }
 
-// Reads `count` bytes of the file to place `at` of the buffer, and gives the place behind those that came. Without room
-// nothing is read.
+// Reads `count` bytes of the file to place `at` of the buffer, and gives the place behind those that came; of a read that
+// fails none count. Without room nothing is read.
 pub fn load(feed: &mut Feed, buffer: &mut [u8], at: usize, count: usize) -> usize
     ensures { Loaded at count result buffer.old buffer.new }
 {

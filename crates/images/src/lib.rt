@@ -96,8 +96,8 @@ pub fn hex(
     lay(rt, to, much, &text[0..count], image)
 }
 
-// Reads an image, or refuses and says as much as is asked for. Where the folder has image.hex in the image's place, that
-// is read.
+// Reads an image, or refuses and says as much as is asked for. Where the folder has image.hex in the image's place,
+// that is read.
 pub fn load(
     rt: &impl System,
     to: Stream,

@@ -145,7 +145,7 @@ fn tell(rt: &impl System, lead: Lead, deed: Deed) {
     }
 }
 
-// Where a sentence's first word stands.
+// How the first word begins: with a capital at the front of a sentence, else with a small letter.
 #[derive(Clone, Copy)]
 pub(crate) enum Letter {
     Capital,

@@ -88,8 +88,8 @@ enum Cure {
 }
 
 impl Cure {
-    // The cure where the options are other from byte `number` on. Where byte 0 is, and the card is not read-protected, the
-    // job protects the board, which then takes no options back.
+    // The cure where the options are other from byte `number` on. Where byte 0 is, and the card is not read-protected,
+    // the job protects the board, which then takes no options back.
     fn of(number: usize, is_protected: bool) -> Cure {
         if is_protected {
             return Cure::Lift;

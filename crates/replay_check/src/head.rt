@@ -25,9 +25,9 @@ pub struct Job {
     pub work_step: u8,
 }
 
-// The head of a chunk, taken apart: how many bytes follow, how often the last literal comes again, or the part of a ramp
-// that is spelled. The bytes of a ramp are modulo 256, so that the low byte of its start will do. A head of another kind
-// has no bytes.
+// The head of a chunk, taken apart: how many bytes follow, how often the last literal comes again, or the part of a
+// ramp that is spelled. The bytes of a ramp are modulo 256, so that the low byte of its start will do. A head of another
+// kind has no bytes.
 #[derive(Clone, Copy)]
 pub enum Chunk {
     Literal(u16),

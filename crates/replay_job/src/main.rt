@@ -11,15 +11,34 @@ use refusal::Refusal;
 // Room for the longest text and the longest buffer of a vector.
 const ROOM: usize = 61000;
 
-// What a call answered, and what it left in its buffer. The letter says which call it was: that of a vector's kind, or
-// the one that measures, which a kind that no vector has is said by too.
-fn print(rt: &impl Print, call: Kind, done: Result<usize, Refusal>, out: &[u8]) {
+// Which call it was, in the order of the line's letters.
+#[derive(Clone, Copy)]
+enum Asked {
+    Read,
+    Write,
+    Text,
+    Measure,
+}
+
+impl From<Kind> for Asked {
+    fn from(kind: Kind) -> Asked {
+        match kind {
+            Kind::Read => Asked::Read,
+            Kind::Write => Asked::Write,
+            Kind::Text => Asked::Text,
+            Kind::Other => Asked::Measure,
+        }
+    }
+}
+
+// What a call answered, and what it left in its buffer.
+fn print(rt: &impl Print, asked: Asked, done: Result<usize, Refusal>, out: &[u8]) {
     let told = numbers::told(done);
     feed::print(
         rt,
         b"[R|W|R|M] # # # #\n",
         &[
-            call as usize,
+            asked as usize,
             told.number,
             told.line,
             told.count,
@@ -52,14 +71,14 @@ fn look(rt: &impl Print, kind: Kind, input: &[u8]) {
             walk.digest,
         ],
     );
-    print(rt, Kind::Other, job::measure(input), b"");
+    print(rt, Asked::Measure, job::measure(input), b"");
 }
 
 // The calls of one vector, on its input in one spelling.
 fn perform(rt: &impl Print, vector: Vector, input: &[u8], out: &mut [u8]) {
     vectors::ramp(out, 0, vector.room, vector.seed, 7);
     let done = call(vector.kind, input, out);
-    print(rt, vector.kind, done, out);
+    print(rt, Asked::from(vector.kind), done, out);
     look(rt, vector.kind, input);
 }
 

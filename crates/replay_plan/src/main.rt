@@ -38,8 +38,8 @@ fn perform(rt: &impl Print, image: &[u8], card: &[u8], out: &mut [u8]) {
     );
 }
 
-// Makes the image and the output buffer of a vector, and lets it happen; the head holds the card. What finds no room has
-// no line.
+// Makes the image and the output buffer of a vector, and lets it happen; the head holds the card. What finds no room
+// has no line.
 fn play(rt: &impl Print, head: &[u8], image: &mut [u8], out: &mut [u8]) {
     let vector = Vector::of(head);
     vectors::ramp(image, 0, vector.image, vector.first, vector.factor);
