@@ -20,17 +20,11 @@ use board::Board;
 use device::Device;
 
 // Is each of `count` bytes from place `at` on known, but for those in write-protected pages?
-#[tactic(auto, using(crate::proofs::Sureness::sure_turn, crate::proofs::Sureness::sure_end))]
 fn is_sure(board: Board, work: &[u8], word: u32, at: usize, count: usize) -> bool
     requires { (at + count ≤ memory_bytes board) × (length work.now ≡ work_bytes board) }
     ensures { result ≡ sure_from board word count at (work_of board work.now) }
 {
-    for i in at..at + count {
-        if !marks::is_known(board, work, i) && !flash::is_kept(board, word, i) {
-            return false;
-        }
-    }
-    true
+    (at..at + count).all(|i| marks::is_known(board, work, i) || flash::is_kept(board, word, i))
 }
 
 // `count` bytes from place `from` on become this value, and known.
