@@ -8,7 +8,7 @@ ghost use Rattle.refusal.specs.Delivery.{delivery};
 ghost use Rattle.record.specs.Record.{length_of, sound, offset_count};
 ghost use Rattle.pieces.specs.Ways.{Holds};
 ghost use Rattle.ihex.specs.Reading.{data_address, upper_after, hex_read, faulty_line};
-ghost use Rattle.ihex.specs.Writing.{hex_text, hex_written};
+ghost use Rattle.ihex.specs.Writing.{upper_half, hex_text, hex_written};
 ghost use Rattle.ihex.specs.Ways.{RecordPlaces, stopped_of, ended_of, Walks, OneSegment, data_text, text_bytes};
 
 use board::Board;
@@ -192,14 +192,21 @@ fn write_data(image: &[u8], out: &mut [u8], at: usize) -> usize
     to
 }
 
+// The upper half of the first flash address, high byte first.
+#[tactic(auto, unfolding(crate::specs::Writing::upper_half))]
+fn upper_half(board: Board) -> [u8; 2]
+    ensures { result ≡ upper_half board }
+{
+    let [high, low, _, _] = board.flash_first().to_be_bytes();
+    [high, low]
+}
+
 // Writes the text of an image to the front of `out`.
 fn spell(board: Board, image: &[u8], out: &mut [u8])
     requires { OneSegment board × (length image.now ≤ offset_count) × (length (hex_text board image.now) ≤ length out.old) }
     ensures { out.new ≡ put 0 (hex_text board image.now) out.old }
 {
-    let half = board.flash_first() / 0x1_0000;
-    let upper = [(half / 256) as u8, (half % 256) as u8];
-    let first = record::write(record::UPPER, 0, &upper, out, 0);
+    let first = record::write(record::UPPER, 0, &upper_half(board), out, 0);
     let last = write_data(image, out, first);
     record::write(record::END, 0, b"", out, last);
 }

@@ -26,7 +26,8 @@ fn numbers_of(answer: Answer) -> (Letter, usize) {
     }
 }
 
-// The answer and the device, in front of the line.
+// The answer and the device, in front of the line. `%` prints the low byte of its number, so a number of four bytes is
+// listed four times, divided down.
 fn print_device(rt: &impl Print, stepped: Stepped) {
     let device = stepped.device;
     let (letter, value) = numbers_of(stepped.answer);

@@ -20,6 +20,7 @@ fn shown(size: usize, is_refused: bool) -> usize
     }
 }
 
+// The digest's four bytes: `%` prints the low one of its number.
 fn print_digest(rt: &impl Print, work: &[u8]) {
     let d = vectors::digest(work);
     feed::print(rt, b"\t%%%%\n", &[d / 16777216, d / 65536, d / 256, d]);
