@@ -77,17 +77,11 @@ fn is_right(board: Board, image: &[u8], work: &[u8]) -> bool
 }
 
 // The lowest suspect offset.
-#[tactic(auto, using(crate::proofs::Walking::lowest_turn, crate::proofs::Walking::lowest_end))]
 fn search(board: Board, image: &[u8], work: &[u8]) -> Option<usize>
     requires { Sound board × (length work.now ≡ work_bytes board) × (length image.now ≤ flash_bytes board) }
     ensures { (unwrap_or result (flash_bytes board) ≡ lowest_from (suspect board image.now (work_of board work.now)) (flash_bytes board) 0) × IfSome result (λ f. f < flash_bytes board) }
 {
-    for f in 0..board.flash_bytes() {
-        if is_suspect(board, image, work, f) {
-            return Some(f);
-        }
-    }
-    None
+    (0..board.flash_bytes()).find(|f| is_suspect(board, image, work, *f))
 }
 
 // The same; it searches only where something can be suspect.
