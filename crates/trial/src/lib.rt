@@ -168,17 +168,13 @@ fn live(
 }
 
 // The first place from `from` on whose byte is not erased, outside write-protected pages.
-#[tactic(auto, using(crate::proofs::Places::written_erased, crate::proofs::Places::written_kept, crate::proofs::Places::written_found, crate::proofs::Places::written_end))]
 fn first_written(memory: &[u8], from: usize) -> usize
     ensures { result ≡ first_written memory.now (length memory.now - from) from }
 {
     let word = protection::protection_word(Board::LOGGER, memory);
-    for i in from..memory.len() {
-        if memory[i] != 0xFF && !flash::is_kept(Board::LOGGER, word, i) {
-            return i;
-        }
-    }
-    from.max(memory.len())
+    (from..memory.len())
+        .find(|i| memory[*i] != 0xFF && !flash::is_kept(Board::LOGGER, word, *i))
+        .unwrap_or(from.max(memory.len()))
 }
 
 // A place in flash, and the front of memory for any other.
