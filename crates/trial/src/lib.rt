@@ -54,20 +54,11 @@ fn equip(memory: &mut [u8], old: u8, card: &[u8])
     memory[options..options + Board::OPTION_BYTES].copy_from_slice(card);
 }
 
-// 1 where the loader is about to leave, or has left.
-fn leaving(mode: Mode) -> usize
-    ensures { result ≡ leaving_of mode }
+// Is the loader about to leave, or has it left?
+fn is_leaving(mode: Mode) -> bool
+    ensures { leaving_of mode ≡ cond result 1 0 }
 {
-    match mode {
-        Mode::ManifestSync | Mode::Left => 1,
-        Mode::Idle
-        | Mode::DownloadSync
-        | Mode::DownloadBusy
-        | Mode::DownloadIdle
-        | Mode::UploadIdle
-        | Mode::Error
-        | Mode::Rebooting => 0,
-    }
+    matches!(mode, Mode::ManifestSync | Mode::Left)
 }
 
 fn latest(is_same: bool, last: usize, line: usize) -> usize
@@ -101,7 +92,7 @@ fn next(scene: Scene, line: usize, at: usize, device: Device, byte: u8) -> Scene
 {
     let before = scene.device;
     let stays = byte == scene.byte;
-    let as_before = leaving(before.mode) == leaving(device.mode);
+    let as_before = is_leaving(before.mode) == is_leaving(device.mode);
     Scene {
         device,
         count: line,
