@@ -83,27 +83,27 @@ fn erase_all(board: Board, work: &mut [u8], word: u32)
 }
 
 // The first `count` bytes of the block become the values from place `at` on, but for those in write-protected pages.
-#[tactic(auto, using(crate::proofs::Copying::store_is), unfolding(marks::specs::Work::values_from, marks::specs::Work::block_from))]
 fn store(board: Board, work: &mut [u8], word: u32, at: usize, count: usize)
     requires { (at + count ≤ memory_bytes board) × (count ≤ transfer_bytes) × (length work.old ≡ work_bytes board) }
     ensures { work_of board work.new ≡ valued (stored board word at (take count (work_of board work.old).block) (work_of board work.old).values) (work_of board work.old) }
 {
-    let (front, block) = work.split_at_mut(marks::block_from(board));
-    let from = marks::values_from(board);
-    let values = &mut front[from..from + board.memory_bytes()];
-    flash::store(board, values, word, at, &block[..count]);
+    let values = marks::values_from(board);
+    let block = marks::block_from(board);
+    for i in 0..count {
+        if !flash::is_kept(board, word, at + i) {
+            work[values + (at + i)] = work[block + i];
+        }
+    }
 }
 
 // The same with no page write-protected.
-#[tactic(auto, using(crate::proofs::Copying::copy_is), unfolding(marks::specs::Work::values_from, marks::specs::Work::block_from))]
 fn copy(board: Board, work: &mut [u8], at: usize, count: usize)
     requires { (at + count ≤ memory_bytes board) × (count ≤ transfer_bytes) × (length work.old ≡ work_bytes board) }
     ensures { work_of board work.new ≡ valued (put at (take count (work_of board work.old).block) (work_of board work.old).values) (work_of board work.old) }
 {
-    let (front, block) = work.split_at_mut(marks::block_from(board));
-    let from = marks::values_from(board);
-    let values = &mut front[from..from + board.memory_bytes()];
-    values[at..at + count].copy_from_slice(&block[..count]);
+    let values = marks::values_from(board);
+    let block = marks::block_from(board);
+    work.copy_within(block..block + count, values + at);
 }
 
 // Do the bytes from place `at` up to place `end` lie in flash, and is no page write-protected?

@@ -1,12 +1,14 @@
 -- What a store into a work area does to what it says. Assumes nothing.
-use mathlib.Core.Path.{◌≡◌, ap, ◌∙◌, sym}
+use mathlib.Core.Path.{◌≡◌, refl, ap, ◌∙◌, sym}
 use mathlib.Core.Logic.{inl}
-use mathlib.Core.List.{List}
+use mathlib.Core.List.{List, [], ◌∷◌}
 use Prim.Native.Nat.{ℕ, ◌+◌, ◌-◌, ◌≤◌, ◌<◌}
 use native.Mathlib.Omega.{arith}
-use lib.ListN.{length, get_or}
+use lib.ListN.{length, take, drop, get_or, set}
 use lib.Seq.{ext_get_or}
+use Rattle.std.proofs.lemmas.List.{take-take}
 use Rattle.laws.specs.Bytes.{put, Apart}
+use Rattle.laws.proofs.Bytes.{sets-put}
 use Rattle.laws.proofs.Split.{by_lt}
 use Rattle.laws.proofs.Places.{apart_within, apart_swapped, part_length, part_at, part_put_in, part_put_out}
 use Rattle.board.specs.declared.Board.{Board}
@@ -55,6 +57,18 @@ module _ (board : Board) (w : List ℕ) (l : length w ≡ work_bytes board) wher
         block = part_length (block_from board) transfer_bytes w block_room;
       }
 
+  -- the values as code lends them, by their two ends
+  pub values_lent : (from size : ℕ) → from ≡ values_from board → size ≡ memory_bytes board → take (from + size - from) (drop from w) ≡ (work_of board w).values
+  unfolding work_of
+  values_lent from size f s =
+      let k : from + size - from ≡ memory_bytes board = omega arith in
+      rw (k, f) refl
+
+  -- the front of the block likewise
+  pub block_lent : (from count : ℕ) → from ≡ block_from board → count ≤ transfer_bytes → take count (drop from w) ≡ take count (work_of board w).block
+  unfolding work_of
+  block_lent from count f h = rw f (sym (take-take count transfer_bytes (drop (block_from board) w) h))
+
   -- each of the values, of the marks and of the bytes of the block
   pub value_at : (i : ℕ) → i < memory_bytes board → get_or w (values_from board + i) 0 ≡ get_or (work_of board w).values i 0
   unfolding work_of
@@ -87,6 +101,16 @@ module _ (board : Board) (w : List ℕ) (l : length w ≡ work_bytes board) wher
     block-put h =
         let room : block_from board + at + length xs ≤ length w = omega (arith, block_room) in
         rw (part_put_in (block_from board) transfer_bytes at xs w block_room h, part_put_out (values_from board) (memory_bytes board) (block_from board + at) xs w values-room room (offset_apart _ _ _ _ at (length xs) h (apart_swapped _ _ _ _ (values-block board))), part_put_out (marks_from board) (memory_bytes board) (block_from board + at) xs w marks-room room (offset_apart _ _ _ _ at (length xs) h (apart_swapped _ _ _ _ (marks_block board))))
+
+  -- one value stored
+  pub value_set : (i v : ℕ) → i < memory_bytes board → work_of board (set w (values_from board + i) v) ≡ valued (set (work_of board w).values i v) (work_of board w)
+  value_set i v h =
+      let one : i + length (v ∷ []) ≤ memory_bytes board = omega arith in
+      let here : values_from board + i + length (v ∷ []) ≤ length w = omega (arith, values-room) in
+      let there : i + length (v ∷ []) ≤ length (work_of board w).values = omega (arith, work_sized.values) in
+      ap (work_of board) (sets-put (v ∷ []) w (values_from board + i) here)
+      ∙ values-put i (v ∷ []) one
+      ∙ ap (λ (m : List ℕ). valued m (work_of board w)) (sym (sets-put (v ∷ []) (work_of board w).values i there))
 
 -- what a work area says tells all its bytes
 pub work_injective : (board : Board) (v w : List ℕ) → length v ≡ work_bytes board → length w ≡ work_bytes board → work_of board v ≡ work_of board w → v ≡ w
