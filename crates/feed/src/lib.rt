@@ -13,7 +13,7 @@ use std::rt::Files;
 pub use vector::{Kind, Vector};
 
 // A proved loop has to end, and nothing says that a file does: more vectors than any file of ours has.
-const MOST: usize = 1000000;
+pub const MOST: usize = 1000000;
 
 // Room for a line.
 const LINE: usize = 256;
@@ -39,7 +39,7 @@ fn full(feed: &mut Feed, out: &mut [u8]) -> usize
     ensures { result ≤ length out.new }
 {
     match &mut feed.file {
-        Some(file) => files::fill(file, out).unwrap_or(0),
+        Some(file) => files::fill_front(file, out).count,
         None => 0,
     }
 }
@@ -62,8 +62,8 @@ pub fn turns<F: FnMut() -> bool>(mut turn: F) -> usize
     MOST
 }
 
-// Reads `count` bytes of the file to place `at` of the buffer, and gives the place behind those that came; of a read that
-// fails none count. Without room nothing is read.
+// Reads `count` bytes of the file to place `at` of the buffer, and gives the place behind those that came. Without room
+// nothing is read.
 pub fn load(feed: &mut Feed, buffer: &mut [u8], at: usize, count: usize) -> usize
     ensures { Loaded at count result buffer.old buffer.new }
 {

@@ -3,7 +3,7 @@
 // No contract can say what the system reads: that the bytes which came are those of the file is seen by running.
 #![tactic(auto)]
 
-ghost use Rattle.std.specs.Prelude.{◌≡◌, cond, Ok, Err, MatchResult, IfOk, IfSome, ◌+◌, ◌<◌, ◌≤◌, ◌^◌, length};
+ghost use Rattle.std.specs.Prelude.{◌≡◌, cond, Ok, Err, None, MatchResult, IfOk, IfSome, ◌+◌, ◌<◌, ◌≤◌, ◌^◌, length};
 ghost use Rattle.append.specs.Said.{left, said_of};
 ghost use Rattle.files.specs.Came.{Came};
 ghost use Rattle.files.specs.Unreadable.{cause_of, unreadable_of};
@@ -104,20 +104,54 @@ fn more(file: &mut impl Read, buffer: &mut [u8], at: usize) -> Result<usize, Fau
     behind(at, read)
 }
 
-// Reads until the buffer is full or the file ends, and gives how many bytes came; none count where a read fails.
-pub fn fill(file: &mut impl Read, buffer: &mut [u8]) -> Result<usize, Fault>
-    ensures { IfOk result (λ count. count ≤ length buffer.new) }
+// How far a file came into a buffer: the bytes in front of it, and the fault of the read that failed, if one did.
+#[derive(Clone, Copy)]
+pub struct Filled {
+    pub count: usize,
+    pub fault: Option<Fault>,
+}
+
+fn ended(count: usize, fault: Option<Fault>) -> Filled
+    ensures { result.count ≡ count }
+{
+    Filled { count, fault }
+}
+
+// Reads until the buffer is full, the file ends or a read fails.
+pub fn fill_front(file: &mut impl Read, buffer: &mut [u8]) -> Filled
+    ensures { result.count ≤ length buffer.new }
 {
     let mut at = 0;
     // how far a read comes is known only behind it, so no range counts the places
     while at < buffer.len() {
-        let end = more(file, buffer, at)?;
+        let end = match more(file, buffer, at) {
+            Ok(end) => end,
+            Err(fault) => return ended(at, Some(fault)),
+        };
         if end <= at {
-            return Ok(at);
+            return ended(at, None);
         }
         at = end;
     }
-    Ok(at)
+    ended(at, None)
+}
+
+// How many bytes count: none where a read failed.
+fn counted(filled: Filled) -> Result<usize, Fault>
+    ensures failed { IfSome filled.fault (λ fault. result ≡ Err fault) }
+    ensures read { filled.fault ≡ None → result ≡ Ok filled.count }
+{
+    match filled.fault {
+        None => Ok(filled.count),
+        Some(fault) => Err(fault),
+    }
+}
+
+// Reads until the buffer is full or the file ends, and gives how many bytes came; none count where a read fails.
+pub fn fill(file: &mut impl Read, buffer: &mut [u8]) -> Result<usize, Fault>
+    ensures { IfOk result (λ count. count ≤ length buffer.new) }
+{
+    counted(fill_front(file, buffer))
 }
 
 // Opens the file at a path, or says why it cannot be opened. The system is asked only for a path that is UTF-8.

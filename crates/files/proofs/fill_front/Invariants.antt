@@ -1,6 +1,6 @@
--- The loop of `files::fill`: the bytes that came lie in the buffer. Assumes nothing.
+-- The loop of `files::fill_front`: the bytes that came lie in the buffer. Assumes nothing.
 use Rattle.std.proofs.Common.{length, ◌-◌, ◌≡◌, ◌≤◌}
-use Rattle.files.proofs.fill.Given as goal
+use Rattle.files.proofs.fill_front.Given as goal
 
 abbrev pub invariant-loop-at : goal.invariant-loop-at
 invariant-loop-at g l = (l.at ≤ length l.buffer) × (length l.buffer ≡ length l.initial.buffer)
