@@ -4,6 +4,7 @@
 // into the lent image.
 #![tactic(auto)]
 
+ghost use Rattle.std.specs.Prelude.{◌≡◌, ◌≤◌, length, Err, IfOk, IfErr};
 ghost use Rattle.images.specs.Laid.{Laid};
 
 use files::{Fault, Stream, System, Unread, Wanted};
@@ -80,6 +81,25 @@ fn lay(
     }
 }
 
+// The image that a HEX text gives; where its file was not read, that.
+fn from_text(
+    rt: &impl System,
+    to: Stream,
+    much: Much,
+    came: Result<usize, Unread>,
+    text: &[u8],
+    image: &mut [u8],
+) -> Result<usize, Unlaid>
+    requires { IfOk came (λ count. count ≤ length text.now) }
+    ensures laid { Laid result image.old image.new }
+    ensures unread { IfErr came (λ unread. result ≡ Err (Unlaid.File unread)) }
+{
+    match came {
+        Ok(count) => lay(rt, to, much, &text[0..count], image),
+        Err(unread) => Err(Unlaid::File(unread)),
+    }
+}
+
 // Reads an image in Intel HEX, whatever the file's name says, or refuses and says as much as is asked for. `load` calls
 // it from two places, so the compiler keeps it apart, and the stack of a caller grows by the text only in here.
 pub fn hex(
@@ -92,12 +112,12 @@ pub fn hex(
     ensures { Laid result image.old image.new }
 {
     let mut text = [0u8; TEXT_ROOM];
-    let count = telling::load(rt, to, much, file, &mut text).map_err(Unlaid::File)?;
-    lay(rt, to, much, &text[0..count], image)
+    let came = telling::load(rt, to, much, file, &mut text);
+    from_text(rt, to, much, came, &text, image)
 }
 
-// Reads an image, or refuses and says as much as is asked for. Where the folder has image.hex in the image's place,
-// that is read.
+// Reads an image, or refuses and says as much as is asked for. Without an argument, where the folder has image.hex and no
+// image.bin, that is read.
 pub fn load(
     rt: &impl System,
     to: Stream,
@@ -108,14 +128,19 @@ pub fn load(
     ensures { Laid result image.old image.new }
 {
     let text = Wanted {
+        argument: file.argument,
+        what: b"image",
         name: b"image.hex",
         all: b"all files",
-        ..file
+    };
+    let bytes = Wanted {
+        name: b"image.bin",
+        ..text
     };
     if is_named_hex(rt, file.argument) {
         return hex(rt, to, much, file, image);
     }
-    if is_found_hex(rt, text, file) {
+    if is_found_hex(rt, text, bytes) {
         return hex(rt, to, much, text, image);
     }
     telling::load(rt, to, much, file, image).map_err(Unlaid::File)

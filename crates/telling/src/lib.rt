@@ -40,6 +40,25 @@ fn refuse(rt: &impl System, to: Stream, much: Much, unread: Unread, file: Wanted
     }
 }
 
+// What came of a file, and a refusal said where it is not read.
+fn said(
+    rt: &impl System,
+    to: Stream,
+    much: Much,
+    file: Wanted,
+    came: Result<usize, Unread>,
+) -> Result<usize, Unread>
+    ensures { result ≡ came }
+{
+    match came {
+        Ok(count) => Ok(count),
+        Err(unread) => {
+            refuse(rt, to, much, unread, file);
+            Err(unread)
+        }
+    }
+}
+
 // Reads a file, or refuses for it and says as much as is asked for.
 pub fn load(
     rt: &impl System,
@@ -51,10 +70,7 @@ pub fn load(
     ensures { Came result buffer.old buffer.new }
 {
     let came = files::read(rt, file, buffer);
-    if let Err(unread) = came {
-        refuse(rt, to, much, unread, file);
-    }
-    came
+    said(rt, to, much, file, came)
 }
 
 // Is the verdict explained without a board?
