@@ -12,17 +12,23 @@ fn length(rest: &[u8]) -> usize
 }
 
 // The line at the front, with its end.
-pub(crate) fn first(rest: &[u8]) -> &[u8] {
+pub(crate) fn first(rest: &[u8]) -> &[u8]
+    ensures { length result.now ≤ length rest.now }
+{
     &rest[0..length(rest)]
 }
 
 // What stands behind the line at the front.
-pub(crate) fn others(rest: &[u8]) -> &[u8] {
+pub(crate) fn others(rest: &[u8]) -> &[u8]
+    ensures { length result.now ≤ length rest.now }
+{
     &rest[length(rest)..]
 }
 
 // A text from one of its lines on, counted from 1; nothing, if there are not so many.
-pub(crate) fn from(text: &[u8], line: usize) -> &[u8] {
+pub(crate) fn from(text: &[u8], line: usize) -> &[u8]
+    ensures { length result.now ≤ length text.now }
+{
     let mut rest = text;
     for _ in 1..line {
         rest = others(rest);
@@ -31,7 +37,9 @@ pub(crate) fn from(text: &[u8], line: usize) -> &[u8] {
 }
 
 // A line without its end, LF or CR LF; all of it, where it does not end.
-pub(crate) fn record(line: &[u8]) -> &[u8] {
+pub(crate) fn record(line: &[u8]) -> &[u8]
+    ensures { length result.now ≤ length line.now }
+{
     match line {
         [record @ .., b'\r', b'\n'] | [record @ .., b'\n'] => record,
         _ => line,
