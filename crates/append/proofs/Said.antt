@@ -36,7 +36,7 @@ said_none xs out at h =
     let e : length out - at ≡ 0 = omega arith in
     said_as xs [] out out at at (take_none (length out - at) xs e) (sym (add-zero at)) (put_nothing out at)
 
-said_all : (xs out o : List ℕ) (at : ℕ) → length xs ≤ length out - at → o ≡ put at xs out → left (at + length xs) o ≡ said_of xs out at
+pub said_all : (xs out o : List ℕ) (at : ℕ) → length xs ≤ length out - at → o ≡ put at xs out → left (at + length xs) o ≡ said_of xs out at
 said_all xs out o at h e = said_as xs xs out o at (at + length xs) (take_all (length out - at) xs h) refl e
 
 -- n of the words are written, as many as there is room for

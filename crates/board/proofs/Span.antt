@@ -1,5 +1,5 @@
 -- Laws of `spans` and `place_of`: the tests that decide a span, and where a placed span ends. Assumes nothing.
-use mathlib.Core.Path.{◌≡◌, ap, ◌∙◌}
+use mathlib.Core.Path.{◌≡◌, refl, ap, ◌∙◌}
 use mathlib.Core.Bool.{true}
 use Prim.Native.Nat.{ℕ, ◌+◌, ◌-◌, ◌≤◌, ◌<◌}
 use native.Mathlib.Omega.{arith}
@@ -35,9 +35,10 @@ spans-ends first bytes address count e =
     let p = and_true (leb first address) (leb (address - first + count) bytes) e in
     (leb-true _ _ p.0, leb-true _ _ p.1)
 
-place_flash : (board : Board) (address count : ℕ) → spans (flash_first board) (flash_bytes board) address count ≡ true → place_of board address count ≡ Flash (flash_from board + (address - flash_first board))
+-- the answer of `place_of` in flash; `bytes` is what the board's flash has
+pub place_flash : (board : Board) (bytes address count : ℕ) → bytes ≡ flash_bytes board → spans (flash_first board) bytes address count ≡ true → place_of board address count ≡ Flash (flash_from board + (address - flash_first board))
 unfolding place_of
-place_flash board address count f = rw f
+place_flash board bytes address count size f = rw (← size, f)
 
 -- a place keeps its `count` bytes within its region
 abbrev pub Lies : Board → ℕ → Place → Type 0
@@ -98,7 +99,7 @@ spans-within first bytes offset count h =
 pub flash_placed : (board : Board) (offset count : ℕ) → offset + count ≤ flash_bytes board → place_of board (flash_first board + offset) count ≡ Flash (flash_from board + offset)
 flash_placed board offset count h =
     let back : flash_first board + offset - flash_first board ≡ offset = omega arith in
-    place_flash board (flash_first board + offset) count (spans-within (flash_first board) (flash_bytes board) offset count h) ∙ ap (λ (k : ℕ). Flash (flash_from board + k)) back
+    place_flash board (flash_bytes board) (flash_first board + offset) count refl (spans-within (flash_first board) (flash_bytes board) offset count h) ∙ ap (λ (k : ℕ). Flash (flash_from board + k)) back
 
 -- and so does the first flash address
 pub first_placed : (board : Board) → Sound board → place_of board (flash_first board) 1 ≡ Flash (flash_from board)

@@ -13,7 +13,7 @@ use Rattle.board.specs.Span.{spans}
 use Rattle.board.proofs.Span.{spans-ends, spans-room}
 
 -- a place in flash lies in one of its pages, and before the next
-flash_page : (board : Board) (place bytes : ℕ) → bytes ≡ flash_bytes board → spans (flash_from board) bytes place 1 ≡ true → (page_at board place + 1 ≤ flash_pages board) × (place < page_from board (page_at board place + 1))
+pub flash_page : (board : Board) (place bytes : ℕ) → bytes ≡ flash_bytes board → spans (flash_from board) bytes place 1 ≡ true → (page_at board place + 1 ≤ flash_pages board) × (place < page_from board (page_at board place + 1))
 unfolding flash_from flash_bytes page_at page_offset flash_pages page_bytes
 flash_page board place bytes size f =
     let e = spans-ends _ _ _ _ f in
